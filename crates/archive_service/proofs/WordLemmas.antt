@@ -1,6 +1,6 @@
 -- What the words of scripts are made of, and how they are read.
 use Rattle.std.proofs.Common.{◌≡◌, ◌≢◌, ℕ, zero, suc, Bool, true, false, ◌&&◌, ◌||◌, cond, ◌+◌, ◌*◌, ◌/◌, ◌%◌, ◌<◌, ◌≤◌, ◌^◌, inl, inr, List, [], ◌∷◌, ◌++◌, length, take, drop, get_or, slice_index, Option, Some, None, Result, Ok, Err, codes, IsSome, not, unwrap_or, refl, sym, ap, ◌∙◌, subst, lit<, rules, arith}
-use Rattle.std.specs.Prelude.{nat_le, nat_lt, nat_eq, IfNone, IfSome, IsOk, MatchResult, ◌↔◌}
+use Rattle.std.specs.Prelude.{nat_le, nat_lt, nat_eq, IfSome, IsOk, MatchResult, ◌↔◌}
 use Rattle.std.specs.List.{AllByRecursion, position, position_from}
 use Rattle.std.specs.Option.{option_map}
 use Rattle.std.specs.Result.{result_ok}
@@ -34,10 +34,6 @@ pub other_word : {name word tested : List ℕ} → tested ≡ word → false ≡
 other_word {name} {word} {tested} is e same =
     let yes = (bytes_eq-Decides name tested).1 (same ∙ sym is) in
     cc
-
-pub if_none : {A : Type 0} (o : Option A) (P : Type 0) → P → IfNone o P
-if_none None P holds = holds
-if_none (Some x) P holds = tt
 
 -- the text has no such byte
 abbrev pub Lacks : ℕ → List ℕ → Type 0

@@ -20,7 +20,6 @@ use Rattle.section_manager.proofs.sections.KeyLemmas.{key_injective}
 use Rattle.paired.proofs.GlobLemmas.{buffers}
 use Rattle.paired.proofs.OpenParts.{keys_apart}
 use Rattle.paired.specs.Records as stored
-use Rattle.paired.proofs.RecordLemmas.{all_by}
 use Rattle.archives.specs.Archives.{Archive, Buffers, IsArchive, IsSoundArchive, LeavesNoForeign, filing_of, state_of}
 use Rattle.archives.specs.Commands.{Command}
 use Rattle.archives.specs.Filing.{filed}
@@ -29,6 +28,7 @@ use Rattle.archives.specs.Machine.{section_of}
 use Rattle.archives.specs.Rows.{Row, row_in}
 use Rattle.archives.specs.Standing.{IsGoing, Leaves, submitted}
 use Rattle.archives.proofs.StandLemmas.{AreFiled, all_map, keeps_going, keeps_stand}
+use Rattle.blob_device.proofs.general.Lists.{all_by}
 
 -- the buffers of an archive, where those of its records are read so
 abbrev pub glob_buffers : {F S : Type 0} {gs : _} → buffer.Ghosts (PageBlob S gs) → (F → Setting) → (WriteFactory → Setting) → Buffers F (PageBlob S gs)

@@ -21,7 +21,6 @@ use Rattle.section_manager.specs.Refusing.{HasFailed}
 use Rattle.section_manager.specs.Sections.{IsHeld, section_key}
 use Rattle.section_manager.specs.declared.journal.Error as journal
 use Rattle.section_manager.proofs.buffers.NothingSealed.{nothing_sealed}
-use Rattle.section_manager.proofs.WalkLemmas.{none_or_value}
 use Rattle.paired.specs.Crashes.{IsBlobOf, IsCopy, IsIndexOf, IsOneOf, IsOwn, IsValuesOf, Keeping, LeavesAlone, WasThere}
 use Rattle.paired.specs.Kept.{Layout, Markers, content_at, is_sound_in, marker_of, stored_records}
 use Rattle.paired.specs.Opening.{MayBeOpened, as_read}
@@ -43,6 +42,7 @@ use Rattle.archives.proofs.ArchiveStands.{going_at, index_apart, values_apart}
 use Rattle.archives.proofs.PruneLemmas.{no_records}
 use Rattle.archives.proofs.sync.Errors.{error_in, raised_by}
 use Rattle.archives.proofs.sync.Names.{one_more}
+use Rattle.blob_device.proofs.general.Options.{none_or_value}
 
 -- ---- a disk on which no section has a byte
 

@@ -30,9 +30,10 @@ use Rattle.archives.specs.declared.prunable.index_record.IndexRecord.{IndexRecor
 use Rattle.archives.proofs.EntryLemmas.{key_there}
 use Rattle.archives.proofs.positions.PositionEntries.{HasKeyAt, HasOtherKeyAt}
 use Rattle.archives.proofs.read.Finding.{to_list}
-use Rattle.archives.proofs.read.Records.{all_at, clash, from_map, some_value, to_map, weaker_at}
+use Rattle.archives.proofs.read.Records.{all_at, clash, from_map, to_map, weaker_at}
 use Rattle.archives.proofs.SeveralLemmas.{Walked, not_walked}
 use Rattle.archives.proofs.ValueLemmas.{no_record_since, stood_before}
+use Rattle.blob_device.proofs.general.Options.{the_some}
 
 -- ---- lists
 
@@ -133,7 +134,7 @@ module _ {A V F S D : Type 0} {gs : _} (p : Prunable A V F (PageBlob S gs)) (dev
           -- a row stands there, whose index a u64 counts
           small : tables.AreInOrder (λ _. ⊥) t → s < 2 ^ 64
           small order =
-              let row = some_value (slice_get (tables.rows_of t s) at) (all_at (λ r. (s ≤ r.index) × (r.index < 2 ^ 64)) (λ r. IsTrue (eq (word key) (word (key_bytes r.key)))) (tables.rows_of t s) at (order.low s) (are.found (get_or handles n d) has s at place)) in
+              let row = the_some (slice_get (tables.rows_of t s) at) (all_at (λ r. (s ≤ r.index) × (r.index < 2 ^ 64)) (λ r. IsTrue (eq (word key) (word (key_bytes r.key)))) (tables.rows_of t s) at (order.low s) (are.found (get_or handles n d) has s at place)) in
               omega (arith, row.2.0.0, row.2.0.1)
 
           -- the record there was read

@@ -31,7 +31,7 @@ use Rattle.paired.specs.OpeningRefusing.{IsCutOff, IsLost, IsOutside, last_of}
 use Rattle.paired.specs.Places.{end_of}
 use Rattle.paired.proofs.BoundaryLemmas.{content_there}
 use Rattle.paired.proofs.KeptLemmas.{EndsBy, follow_ends, sound_parts}
-use Rattle.paired.proofs.opening.StartRefusals.{all_at, last_is_record, records_end, sealed_small}
+use Rattle.paired.proofs.opening.StartRefusals.{last_is_record, records_end, sealed_small}
 use Rattle.archives.specs.Filing.{Filing, kept_entries}
 use Rattle.archives.specs.Lawful.{Lawful}
 use Rattle.archives.specs.Opening.{HasNoVersion, HasStray, IsPastLimits}
@@ -40,6 +40,7 @@ use Rattle.archives.specs.declared.error.Error.{Error}
 use Rattle.archives.specs.declared.error.Error.TheVariants.{Journal, Metadata, RecordCorrupted, Full, Mem}
 use Rattle.archives.proofs.init.Causes.{lawful_no_over, lawful_no_stray}
 use Rattle.archives.proofs.init.Records.{one_markers}
+use Rattle.blob_device.proofs.general.Lists.{all_at}
 
 -- ---- the copies of the markers
 

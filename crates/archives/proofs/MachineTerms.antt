@@ -13,7 +13,6 @@ use Rattle.sealed_pages.specs.View.{page_at}
 use Rattle.sealed_pages.specs.declared.page_blob.PageBlob.{PageBlob}
 use Rattle.sealed_pages.specs.declared.write_blob.WriteBlob.{WriteBlob}
 use Rattle.section_manager.specs.unsealed.Buffer.{count_of}
-use Rattle.section_manager.proofs.WalkLemmas.{has_value, none_or_value}
 use Rattle.segments.specs.FixedLists as fixed
 use Rattle.meta_store.specs.Blobs.{blob_of, read_bytes}
 use Rattle.meta_store.specs.Copies.{ReadsAs}
@@ -30,7 +29,7 @@ use Rattle.paired.specs.Records.{is_sound}
 use Rattle.paired.proofs.FrameLemmas.{length-bytes_at, length-frame}
 use Rattle.paired.proofs.KeptLemmas.{sound_parts}
 use Rattle.paired.proofs.pair.Reads.{index_size}
-use Rattle.paired.proofs.RecordLemmas.{all_by, length-records}
+use Rattle.paired.proofs.RecordLemmas.{length-records}
 use Rattle.archives.specs.Archives.{Archive, IsArchive, IsSoundArchive, filing_of, state_of}
 use Rattle.archives.specs.Filing.{Filing, filed}
 use Rattle.archives.specs.Machine.{section_of}
@@ -39,6 +38,8 @@ use Rattle.archives.specs.Putting.{IsAllowed, IsPassed, WouldPass}
 use Rattle.archives.specs.Rows.{HasRoom}
 use Rattle.archives.proofs.ArchiveStands.{length_rows}
 use Rattle.archives.proofs.put.Lemmas.{whole_bytes}
+use Rattle.blob_device.proofs.general.Lists.{all_by}
+use Rattle.blob_device.proofs.general.Options.{has_value, none_or_value}
 
 -- ---- room
 

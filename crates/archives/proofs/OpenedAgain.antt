@@ -15,7 +15,6 @@ use Rattle.section_manager.specs.SealedLaws.{no_chance}
 use Rattle.section_manager.specs.Sections.{key_of, section_key}
 use Rattle.section_manager.specs.Setting.{Setting}
 use Rattle.section_manager.specs.unsealed.Buffer.{Stands}
-use Rattle.section_manager.proofs.WalkLemmas.{none_or_value}
 use Rattle.segments.proofs.FixedWriteLemmas.{ArePages}
 use Rattle.segments.proofs.HadLemmas.{journal_had, sections_had}
 use Rattle.meta_store.specs.declared.error.Side.{Side}
@@ -32,6 +31,7 @@ use Rattle.paired.proofs.pair.Facts.{journal_lasts, not_there, proven_of}
 use Rattle.paired.proofs.reconcile.Resting.{no_slots, none_sound, of_rest, reads_absent, reads_there}
 use Rattle.archives.specs.Archives.{Archive, IsArchive, IsSoundArchive}
 use Rattle.archives.proofs.ArchiveStands.{glob_buffers}
+use Rattle.blob_device.proofs.general.Options.{none_or_value}
 
 -- ---- contents
 

@@ -10,14 +10,13 @@ use Rattle.blob_device.specs.Opened.{OpenedList}
 use Rattle.value_codec.specs.declared.codec.Error as codec
 use Rattle.sealed_pages.specs.declared.page_blob.PageBlob.{PageBlob}
 use Rattle.section_manager.specs.Sections.{IsHeld, IsSame, section_key}
-use Rattle.section_manager.proofs.WalkLemmas.{none_or_value}
 use Rattle.segments.specs.FixedLists as fixed
 use Rattle.paired.specs.Crashes.{IsOneOf}
 use Rattle.paired.specs.glob.Sections as glob
 use Rattle.paired.specs.Kept.{Layout, marker_of}
 use Rattle.paired.specs.Pair.{AreMarkers, HasNoBytes, IsPair, Pair, length_of, list_of, records_of, synced_length, IsSafeOn}
 use Rattle.paired.specs.Records as stored
-use Rattle.paired.proofs.RecordLemmas.{all_by, length-records}
+use Rattle.paired.proofs.RecordLemmas.{length-records}
 use Rattle.ordinal_store.specs.Numbers.{Set, TakesAway}
 use Rattle.archives.specs.Archives.{Archive, Buffers, IsArchive, IsSoundArchive, LeavesNoForeign, filing_of, state_of}
 use Rattle.archives.specs.Filing.{filed}
@@ -29,6 +28,8 @@ use Rattle.archives.proofs.IndexSets.{same_test}
 use Rattle.archives.proofs.PuttingLemmas.{section_from}
 use Rattle.archives.proofs.sync.Lemmas.{records_same}
 use Rattle.archives.proofs.sync.Names.{one_more}
+use Rattle.blob_device.proofs.general.Lists.{all_by}
+use Rattle.blob_device.proofs.general.Options.{none_or_value}
 
 -- the set without the numbers below a section's start is that of the rows without the sections below
 module _ (items : ℕ) (rows new : ℕ → List Row) (bound : ℕ) (some_items : 1 ≤ items) (some : 1 ≤ bound) (start : section_of items bound ≡ bound)

@@ -5,13 +5,13 @@ use Rattle.blob_device.specs.Disk.{Image, Disk}
 use Rattle.paired.specs.Kept.{Markers, stored_records}
 use Rattle.paired.specs.Opening.{IsKeptFrom, KeepsAs, Recalls}
 use Rattle.paired.specs.Records as pair
-use Rattle.paired.proofs.RecordLemmas.{all_take, all_by}
 use Rattle.archives.specs.Commands.{Command}
 use Rattle.archives.specs.Filing.{Filing, filed, kept, kept_entries}
 use Rattle.archives.specs.IndexRecord.{index_of}
 use Rattle.archives.specs.Lawful.{Lawful}
 use Rattle.archives.specs.Machine.{State, section_of}
 use Rattle.archives.specs.Standing.{StandsFor, IsPrefix, IsGoing, Leaves, submitted}
+use Rattle.blob_device.proofs.general.Lists.{all_by, all_take}
 
 module _ (f : Filing) (old : Image) (markers : Markers) (new : Image) (keeps : KeepsAs f.layout old markers new) where
   pub same_kept : (s : ℕ) → s < 2 ^ 64 → kept f new keeps.markers s ≡ kept f old markers s

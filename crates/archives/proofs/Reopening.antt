@@ -6,8 +6,6 @@ use Rattle.std.proofs.lemmas.Bool.{cases_lt}
 use Rattle.blob_device.specs.Disk.{Disk, Image, NothingPending}
 use Rattle.blob_device.specs.Opened.{OpenedList}
 use Rattle.sealed_pages.specs.declared.page_blob.PageBlob.{PageBlob}
-use Rattle.section_manager.proofs.WalkLemmas.{none_or_value}
-use Rattle.segments.proofs.FixedWalks.{is_some}
 use Rattle.paired.specs.Kept.{Markers}
 use Rattle.paired.specs.Opening.{as_read}
 use Rattle.paired.proofs.opening.Laws.{crash_as_read}
@@ -19,6 +17,7 @@ use Rattle.archives.specs.Machine.{Entry, IsReopened, State, Step}
 use Rattle.archives.specs.Replies as reply
 use Rattle.archives.specs.Standing.{IsPrefix, IsStart, Leaves, StandsFor, submitted}
 use Rattle.archives.proofs.init.State.{length_left, unheld_list}
+use Rattle.blob_device.proofs.general.Options.{none_or_value, some_there}
 
 -- with no command under way the lists are submitted as they are
 no_choice : {X : Type 0} (b : Bool) (x : X) → (if b then x else x) ≡ x
@@ -92,7 +91,7 @@ pub none_beyond : {F S : Type 0} {gs : _} {bs : _} {told : Type 0} (a : Archive 
 none_beyond a opened d pos archive s far =
     let none : a.pair.index.sections.held s ≡ None = elim (none_or_value (a.pair.index.sections.held s)) [
       | inl none ↦ none
-      | inr some ↦ absurd (omega (arith, far, archive.pair.index.over.opened_list.number s (inl (is_some (a.pair.index.sections.held s) some.0 some.1))))
+      | inr some ↦ absurd (omega (arith, far, archive.pair.index.over.opened_list.number s (inl (some_there (a.pair.index.sections.held s) some.0 some.1))))
     ] in
     let empty = unheld_list a.pair pos d s none in
     (ap (map (filed (filing_of a))) empty, omega (arith, archive.pair.settled.lengths s, length_left a.pair pos d s, ap length empty))

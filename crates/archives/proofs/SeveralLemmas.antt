@@ -1,19 +1,17 @@
 -- Lookups of all records at an index, one record after another: what was read so far, and how they end.
-use Rattle.std.proofs.Common.{◌≡◌, ◌≢◌, ◌↔◌, inl, inr, refl, sym, ◌∙◌, ap, subst, ℕ, suc, ◌+◌, ◌*◌, ◌/◌, ◌<◌, ◌≤◌, ◌^◌, Bool, true, false, List, [], ◌∷◌, ◌++◌, map, length, take, get_or, slice_get, Option, None, Some, IsSomeAnd, IsTrue, Result, Ok, Err, arith}
+use Rattle.std.proofs.Common.{◌≡◌, ◌≢◌, ◌↔◌, inl, inr, refl, sym, ◌∙◌, ap, subst, ℕ, ◌+◌, ◌*◌, ◌/◌, ◌<◌, ◌≤◌, ◌^◌, Bool, true, false, List, [], ◌∷◌, ◌++◌, map, length, take, get_or, slice_get, Option, None, Some, IsSomeAnd, IsTrue, Result, Ok, Err, arith}
 use Rattle.std.specs.Prelude.{⊤, IfSome}
 use Rattle.std.specs.List.{AllByRecursion}
 use Rattle.std.specs.Option.{option_map}
 use Rattle.std.proofs.lemmas.Bool.{false≢true}
 use Rattle.std.proofs.lemmas.List.{take_all, take_more}
 use Rattle.std.proofs.lemmas.Nat.{mul-le}
-use Rattle.std.proofs.Math.Nat.{suc-mul}
 use Rattle.blob_device.specs.Disk.{Disk, Key}
 use Rattle.blob_device.specs.Footprint.{AtLeastBound, AtMostBoth, Footprint, NoBound}
 use Rattle.blob_device.specs.Timeline.{disk}
 use Rattle.blob_device.specs.declared.device.Device as device
 use Rattle.blob_device.proofs.FootprintLemmas.{footprint_none, footprint_then, footprint_wider}
 use Rattle.blob_device.proofs.Moments.{always_start}
-use Rattle.meta_store.proofs.Ascending.{all_one_more}
 use Rattle.sealed_pages.specs.Reading.{Unchanged}
 use Rattle.sealed_pages.specs.declared.page_blob.PageBlob.{PageBlob}
 use Rattle.sealed_pages.proofs.looking.Looking.{unchanged_now, unchanged_then}
@@ -43,9 +41,8 @@ use Rattle.archives.proofs.read.Finding.{both_at}
 use Rattle.archives.proofs.read.Records.{weaker_at}
 use Rattle.archives.proofs.ReadsLemmas.{lookup_cause, no_record}
 use Rattle.archives.proofs.ValueLemmas.{no_record_since, unread_since}
-
-one_more : (n c : ℕ) → (n + 1) * c ≡ n * c + c
-one_more n c = let on : n + 1 ≡ suc n = omega arith in ap (λ m. m * c) on ∙ suc-mul n c
+use Rattle.blob_device.proofs.general.Lists.{all_push}
+use Rattle.blob_device.proofs.general.Numbers.{times_next}
 
 -- ---- no answer
 
@@ -107,7 +104,7 @@ module _ {A V F S D : Type 0} {gs : _} (p : Prunable A V F (PageBlob S gs)) (dev
         after = (filing_by p a).layout.record_size / (filing_by p a).layout.page_size + 2;
         first = (is.0, refl);
         second = (is.0, refl);
-        sum = is.1 ∙ one_more n ((filing_by p a).layout.record_size / (filing_by p a).layout.page_size + 2);
+        sum = is.1 ∙ times_next n ((filing_by p a).layout.record_size / (filing_by p a).layout.page_size + 2);
       }
 
       both_reads : (n : ℕ) (q : Key) (m : ℕ) → ReadsRecords (filing_by p a).layout s (n + 1) q m → AtMostBoth (ReadsRecords (filing_by p a).layout s n) (ReadsRecord (filing_by p a).layout s) q m
@@ -248,7 +245,7 @@ module _ {A V F S D : Type 0} {gs : _} (p : Prunable A V F (PageBlob S gs)) (dev
         walked = walked_more (Ok e) reads;
         read = λ t. each_push (λ q y. IsEntry (p.see a) (disk (dev.time old)) s (key_bytes y.0, p.spelling y.1) q) (take n items) es (get_or items n 0) e (so_far.read t)
             (subst (λ (d : Disk). IsEntry (p.see a) d s (key_bytes e.0, p.spelling e.1) (get_or items n 0)) (unchanged_now _ _ (so_far.walked.unchanged t)) (both_at _ _ _ (reads.key t) (reads.reads.ends.value t)));
-        accepted = all_one_more (λ x. p.Accepts a x.1) es e so_far.accepted reads.reads.ends.accepted;
+        accepted = all_push (λ x. p.Accepts a x.1) es e so_far.accepted reads.reads.ends.accepted;
       })
 
       -- it could not be read
@@ -389,7 +386,7 @@ module _ {A V F S D : Type 0} {gs : _} (p : Prunable A V F (PageBlob S gs)) (dev
       key_more r reads other = subst (λ (x : List ℕ). HasReadKeys i s key (n + 1) x old new) (sym (take_more items n 0 next)) (record {
         walked = key_walked (Ok r) reads;
         start = λ none. absurd (let no : ⊥ = omega (arith, none) in no);
-        other = λ t. all_one_more (HasOtherKeyAt (p.see a) (disk (dev.time old)) s key) (take n items) (get_or items n 0) (so_far.other t)
+        other = λ t. all_push (HasOtherKeyAt (p.see a) (disk (dev.time old)) s key) (take n items) (get_or items n 0) (so_far.other t)
             (weaker_at (slice_get (list_of (p.see a).pair (disk (dev.time old)) s) (get_or items n 0)) (λ x is equal. other (sym is ∙ equal)) (keyed r reads t));
       })
 

@@ -11,13 +11,13 @@ use Rattle.paired.specs.Opening.{AreNamed, IsInPlace}
 use Rattle.paired.specs.Places.{Follow, end_of}
 use Rattle.paired.specs.Records as pair
 use Rattle.paired.proofs.opening.Ends.{follow_first}
-use Rattle.paired.proofs.RecordLemmas.{all_take, all_by}
 use Rattle.archives.specs.Commands.{Command}
 use Rattle.archives.specs.Filing.{Filing, filed, kept, kept_entries}
 use Rattle.archives.specs.IndexRecord.{index_of}
 use Rattle.archives.specs.Lawful.{Lawful}
 use Rattle.archives.specs.Machine.{State, section_of}
 use Rattle.archives.specs.Standing.{IsGoing, IsPrefix, StandsFor, submitted}
+use Rattle.blob_device.proofs.general.Lists.{all_by, all_take}
 
 -- the lists are those of an archive: what a lawful image asks of what it stores and keeps
 pub record AreFiled (f : Filing) (wanted : ℕ → List pair.Entry) : Type 0 where

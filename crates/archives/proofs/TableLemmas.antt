@@ -13,7 +13,8 @@ use Rattle.archives.specs.Finding.{Index, IsIn}
 use Rattle.archives.specs.Machine.{section_of}
 use Rattle.archives.specs.Rows.{AreTables, Row, row_of, rows_of}
 use Rattle.archives.proofs.read.Finding.{IsFirst}
-use Rattle.archives.proofs.read.Records.{clash, from_map, some_value, to_map, weaker_at}
+use Rattle.archives.proofs.read.Records.{clash, from_map, to_map, weaker_at}
+use Rattle.blob_device.proofs.general.Options.{the_some}
 
 -- ---- keys, told apart by their bytes
 
@@ -94,7 +95,7 @@ module _ {K : Type 0} (key_bytes : K → List ℕ) where
     -- and where there is none, the archive has none
     pub none_of : held.FindsFirst rows i None → (n : ℕ) → IsIn a (Index i) n → ⊥
     none_of none n (p, is) =
-        let found = some_value (slice_get (a.rows n) p) is in
+        let found = the_some (slice_get (a.rows n) p) is in
         let there : IsSomeAnd (slice_get (a.rows s) p) (λ r. r.index ≡ i) = subst (λ (m : ℕ). IsSomeAnd (slice_get (a.rows m) p) (λ r. r.index ≡ i)) (found.2.0 ∙ sym here) (weaker_at (slice_get (a.rows n) p) (λ r both. both.1) is) in
         none p (from_map (row_of key_bytes) (λ r. r.index ≡ i) rows p (subst (λ (xs : List Row). IsSomeAnd (slice_get xs p) (λ r. r.index ≡ i)) shows there))
 

@@ -1,5 +1,5 @@
 -- A table made of another: one value more.
-use Rattle.std.proofs.Common.{◌≡◌, ◌≢◌, ⊎_elim, ℕ, Bool, true, false, cond, List, [], ◌∷◌, ◌++◌, map, Bor, Option, Some, None, Vec, Ordering, refl, sym, ◌∙◌, ap, subst}
+use Rattle.std.proofs.Common.{◌≡◌, ◌≢◌, ⊎_elim, ℕ, Bool, true, false, cond, List, [], ◌∷◌, map, Bor, Option, Some, None, Vec, Ordering, refl, sym, ◌∙◌, ap, subst}
 use Rattle.std.specs.Str.{bytes_eq}
 use Rattle.std.specs.Option.{option_map, option_and_then}
 use Rattle.std.specs.Ordering.{nat_cmp, is_eq}
@@ -161,10 +161,6 @@ module _ {V S T : Type 0} (makes : S → V → Option T) (next : S → V → S) 
   -- the table has at each key what was made of the value there
   pub table_found : (s : S) (table : Partitions V) → IsSortedTable {V = V} table.entries → (k : Key) → table_built {V = V} {S = S} {T = T} makes next s table.entries (λ _. None) k ≡ option_and_then (makes (state_at {V = V} {S = S} next s table.entries k)) (at_key table k)
   table_found s table sorted k = found_after s table.entries sorted (λ _. None) k ∙ found_in_none (state_at {V = V} {S = S} next s table.entries k) (at_name table k.0) k.1
-
-pub all_push : {X : Type 0} (P : X → Type 0) (xs : List X) (x : X) → AllByRecursion P xs → P x → AllByRecursion P (xs ++ x ∷ [])
-all_push P [] x all here = (here, tt)
-all_push P (y ∷ xs) x all here = (all.0, all_push P xs x all.1 here)
 
 -- what holds of each item that a loop was given holds of each entry
 pub all_shown : {V : Type 0} (P : Vec ℕ Global × V → Type 0) (xs : List (Bor (Vec ℕ Global) × Bor V)) → AllByRecursion (λ p. P (deref_pair p)) xs → AllByRecursion P (map deref_pair xs)

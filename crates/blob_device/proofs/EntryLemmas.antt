@@ -9,7 +9,7 @@ use Rattle.blob_device.specs.Calls.{Track, now, entry_of, entry_after, opening, 
 use Rattle.blob_device.specs.Laws.{opened_stands}
 use Rattle.blob_device.specs.Timeline.{disk}
 use Rattle.blob_device.proofs.Puts.{put_self}
-use Rattle.blob_device.proofs.Bytes.{length-written, length-resized}
+use Rattle.blob_device.specs.Lengths.{length-resized, length-written}
 
 abbrev pub with_reads : ℕ → ℕ → Opened
 with_reads len r = record { len = len; reads = r }

@@ -5,17 +5,15 @@ use Rattle.blob_device.specs.declared.error.DevError.{DevError}
 use Rattle.blob_device.specs.Disk.{Key, Blob, Disk, MayHold, MayLeave, settled_at, past}
 use Rattle.blob_device.specs.Change.{Change, Make, Write, Resize, Settle, Remove, Look, during, done, FailedTo, written, resized}
 use Rattle.blob_device.specs.Timeline.{Timeline, disk, Passes, Always, OnlyAt}
-use Rattle.blob_device.proofs.Bytes.{length-written, length-resized, least_push, outside_push}
+use Rattle.blob_device.proofs.Bytes.{outside_push}
 use Rattle.blob_device.proofs.Moments.{always_now, only_start, only_on, ok_blob, err_has}
 use Rattle.blob_device.specs.Guards.{Guards, Sealed, Avoids, Makes}
-use Rattle.blob_device.proofs.Places.{written_out, resized_below}
+use Rattle.blob_device.specs.Lengths.{least_push, length-resized, length-written}
+use Rattle.blob_device.specs.Places.{resized_below, written_out}
+use Rattle.blob_device.proofs.general.Lists.{all_push}
 
 pub guards_settled : (R : ℕ → Type 0) (v : ℕ → ℕ) (c : List ℕ) → ((i : ℕ) → R i → i < length c) → ((i : ℕ) → R i → get_or c i 0 ≡ v i) → Guards R v (settled_at c)
 guards_settled R v c long same = record { there = refl; sure = refl; short = long; long = long; outside = λ i r. tt; same = same }
-
-pub all_push : (Q : List ℕ → Type 0) (cs : List (List ℕ)) (c : List ℕ) → AllByRecursion Q cs → Q c → AllByRecursion Q (cs ++ c ∷ [])
-all_push Q [] c all new = (new, tt)
-all_push Q (d ∷ cs) c all new = (all.0, all_push Q cs c all.1 new)
 
 module _ (R : ℕ → Type 0) (v : ℕ → ℕ) (b : Blob) (g : Guards R v b) where
   guards_written : (at : ℕ) (bytes c : List ℕ) → ((i : ℕ) → R i → (i < at) ⊎ (at + length bytes ≤ i)) → ((i : ℕ) → R i → i < length c) → ((i : ℕ) → R i → get_or c i 0 ≡ v i)

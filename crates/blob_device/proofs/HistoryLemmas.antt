@@ -5,7 +5,7 @@ use Rattle.blob_device.specs.Disk.{Blob, settled_at, shortest, longest}
 use Rattle.blob_device.specs.Change.{Make, Write, during, done, written}
 use Rattle.blob_device.specs.Calls.{result_of}
 use Rattle.blob_device.specs.Histories.{IsHistory}
-use Rattle.blob_device.proofs.Bytes.{least_push, greatest_push}
+use Rattle.blob_device.specs.Lengths.{greatest_push, least_push}
 
 -- one content more
 pub less : (b : Blob) (whole : List ℕ) (n m : ℕ) → n ≡ shortest b → m ≡ length whole → min n m ≡ shortest (record b { since = b.since ++ whole ∷ [] })

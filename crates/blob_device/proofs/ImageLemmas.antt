@@ -8,8 +8,8 @@ use Rattle.blob_device.specs.declared.memory.blob_log.BlobLog.{BlobLog}
 use Rattle.blob_device.specs.declared.memory.blob_log.Call.{Call}
 use Rattle.blob_device.specs.Disk.{Blob, AbsentIsNothing, nothing, begun}
 use Rattle.blob_device.specs.Calls.{started, now, replay, change_of, writes_bytes, IsSound}
-use Rattle.blob_device.proofs.Replay.{all_below}
 use Rattle.blob_device.specs.Tracks.{track_of, track_at}
+use Rattle.blob_device.specs.Laws.{all_below}
 
 abbrev bytes_in : Option (Vec ℕ Global) → Option (List ℕ)
 bytes_in i = option_map (λ (v : Vec ℕ Global). v.items) i

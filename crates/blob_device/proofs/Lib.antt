@@ -3,6 +3,7 @@ pub mod Bytes
 pub mod CrashLemmas
 pub mod EntryLemmas
 pub mod FootprintLemmas
+pub mod general
 pub mod GuardsLemmas
 pub mod HistoryLemmas
 pub mod ImageLemmas
@@ -17,9 +18,8 @@ pub mod Moments
 pub mod NamesLemmas
 pub mod Numbers
 pub mod OpenedLemmas
+pub mod Pieces
 pub mod Places
 pub mod Puts
 pub mod Replay
-pub mod Results
 pub mod StaysLemmas
-pub mod Pieces

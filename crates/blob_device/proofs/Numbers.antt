@@ -26,6 +26,7 @@ use Rattle.blob_device.specs.Tables.{at_name, at_key, Partitions, by_bytes}
 use Rattle.blob_device.specs.Tracks.{track_of, track_at}
 use Rattle.blob_device.proofs.Maps.{same_or_differ, differ}
 use Rattle.blob_device.proofs.NamesLemmas.{Logs, found_at, here, past, not_before_itself, where_ascending, where_each}
+use Rattle.blob_device.proofs.general.Lists.{all_with}
 
 abbrev Shelves : Type 0
 Shelves = List (Vec ℕ Global × BTreeMap (Vec ℕ Global) BlobLog)
@@ -57,10 +58,6 @@ all_each : {X : Type 0} (P : X → Type 0) → ((x : X) → P x) → (xs : List 
 all_each P each [] = tt
 all_each P each (x ∷ xs) = (each x, all_each P each xs)
 
-all_both : {X : Type 0} (P Q R : X → Type 0) → ((x : X) → P x → Q x → R x) → (xs : List X) → AllByRecursion P xs → AllByRecursion Q xs → AllByRecursion R xs
-all_both P Q R both [] p q = tt
-all_both P Q R both (x ∷ xs) p q = (both x p.0 q.0, all_both P Q R both xs p.1 q.1)
-
 all_contains : {X : Type 0} (P : X → Type 0) (xs : List X) (x : X) → AllByRecursion P xs → Contains xs x → P x
 all_contains {X = X} P xs x all found = go xs all found.0 found.1 found.2
   where
@@ -89,7 +86,7 @@ unfolding IsStrictlySortedBy
 sorted_map p [] sorted = tt
 sorted_map p (x ∷ xs) sorted = (
   all_map (key p) (λ (k : Key). key_cmp (key p x) k ≡ Less) xs
-      (all_both (λ (y : List ℕ). slice_cmp nat_cmp x y ≡ Less) (λ (y : List ℕ). slice_cmp nat_cmp x y ≡ Less) (λ (y : List ℕ). key_cmp (key p x) (key p y) ≡ Less) (λ y less again. less_name p x y less) xs sorted.0 sorted.0),
+      (all_with (λ (y : List ℕ). slice_cmp nat_cmp x y ≡ Less) (λ (y : List ℕ). slice_cmp nat_cmp x y ≡ Less) (λ (y : List ℕ). key_cmp (key p x) (key p y) ≡ Less) (λ y less again. less_name p x y less) xs sorted.0 sorted.0),
   sorted_map p xs sorted.1,
 )
 
@@ -319,11 +316,11 @@ entries_found {V = V} (x ∷ es) sorted = (head, shift es sorted.0 (entries_foun
 
 -- the logs of a table tell the disk that they tell
 pub all_told : (bits : ℕ) (d : Disk) (table : Partitions BlobLog) → IsSortedTable table.entries → ((k : Key) → d k ≡ now (track_at (at_key table k))) → AllTold bits d table.entries
-all_told bits d table sorted is = all_both
+all_told bits d table sorted is = all_with
     (λ (s : Vec ℕ Global × BTreeMap (Vec ℕ Global) BlobLog). lookup (test s.0.items) table.entries ≡ Some s.1)
     (λ (s : Vec ℕ Global × BTreeMap (Vec ℕ Global) BlobLog). IsStrictlySortedBy by_bytes (keys_of s.1.entries))
     (λ (s : Vec ℕ Global × BTreeMap (Vec ℕ Global) BlobLog). Told bits d s.0.items s.1.entries)
-    (λ s at names. all_both
+    (λ s at names. all_with
     (λ (e : Vec ℕ Global × BlobLog). lookup (test e.0.items) s.1.entries ≡ Some e.1)
     (λ (e : Vec ℕ Global × BlobLog). lookup (test e.0.items) s.1.entries ≡ Some e.1)
     (λ (e : Vec ℕ Global × BlobLog). d (key s.0.items e.0.items) ≡ now (track_of e.1))

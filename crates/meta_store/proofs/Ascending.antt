@@ -7,6 +7,7 @@ use Rattle.std.specs.Cmp.{IsTotalOrder}
 use Rattle.std.specs.List.{AllByRecursion, slice_get}
 use Rattle.std.specs.List.Sorted.{IsStrictlySortedBy}
 use Rattle.std.specs.Map.{keys_of}
+use Rattle.blob_device.proofs.general.Lists.{all_push}
 
 pub less_true : (r : Ordering) → IsTrue (is_lt r) → r ≡ Less
 less_true Less is = refl
@@ -15,10 +16,6 @@ less_true Greater is = absurd (cc is)
 
 pub true_less : (r : Ordering) → r ≡ Less → IsTrue (is_lt r)
 true_less r is = ap is_lt is
-
-pub all_one_more : {X : Type 0} (P : X → Type 0) (xs : List X) (y : X) → AllByRecursion P xs → P y → AllByRecursion P (xs ++ y ∷ [])
-all_one_more P [] y all new = (new, tt)
-all_one_more P (x ∷ xs) y all new = (all.0, all_one_more P xs y all.1 new)
 
 pub all_first : {X : Type 0} (P : X → Type 0) (xs ys : List X) → AllByRecursion P (xs ++ ys) → AllByRecursion P xs
 all_first P [] ys all = tt
@@ -37,7 +34,7 @@ module _ {K : Type 0} (R : K → K → Ordering) where
   pub sorted_push : (ks : List K) (y : K) → IsStrictlySortedBy R ks → AllByRecursion (λ k. R k y ≡ Less) ks → IsStrictlySortedBy R (ks ++ y ∷ [])
   unfolding IsStrictlySortedBy
   sorted_push [] y sorted below = (tt, tt)
-  sorted_push (k ∷ ks) y sorted below = (all_one_more (λ j. R k j ≡ Less) ks y sorted.0 below.0, sorted_push ks y sorted.1 below.1)
+  sorted_push (k ∷ ks) y sorted below = (all_push (λ j. R k j ≡ Less) ks y sorted.0 below.0, sorted_push ks y sorted.1 below.1)
 
   -- the first keys
   pub sorted_front : (ks ls : List K) → IsStrictlySortedBy R (ks ++ ls) → IsStrictlySortedBy R ks

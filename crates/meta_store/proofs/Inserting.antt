@@ -2,7 +2,7 @@
 use Rattle.std.proofs.Common.{◌≡◌, ◌⊎◌, inl, inr, ◌≤◌, length, arith, Bool, true, false, cond, List, [], ◌∷◌, ◌++◌, Option, Some, None, IsSome, refl, sym, ◌∙◌, ap, subst}
 use Rattle.std.specs.Prelude.{OnSome, IfNone, is_some}
 use Rattle.std.specs.declared.cmp.Ordering.{Ordering}
-use Rattle.std.specs.declared.cmp.Ordering.TheVariants.{Less, Equal, Greater}
+use Rattle.std.specs.declared.cmp.Ordering.TheVariants.{Less, Greater}
 use Rattle.std.specs.Ordering.{match_ordering, ordering_reverse}
 use Rattle.std.specs.Cmp.{IsTotalOrder}
 use Rattle.std.specs.List.{AllByRecursion}
@@ -18,17 +18,7 @@ use Rattle.meta_store.specs.Store.{shown, staging}
 use Rattle.meta_store.specs.Lends.{WroteValue, SameMap}
 use Rattle.meta_store.proofs.Ascending.{sorted_below, keys_append}
 
-matched : {X : Type 0} (Q : X → Type 0) (r : Ordering) (a b c : X) → Q a → Q b → Q c → Q (match_ordering r a b c)
-matched Q Less a b c qa qb qc = qa
-matched Q Equal a b c qa qb qc = qb
-matched Q Greater a b c qa qb qc = qc
-
 module _ {K V : Type 0} (R : K → K → Ordering) where
-  -- what holds of the values before holds of them with one more
-  pub all_inserted : (P : V → Type 0) (es : List (K × V)) (k : K) (v : V) → AllByRecursion (λ e. P e.1) es → P v → AllByRecursion (λ e. P e.1) (insert_entry R es k v)
-  all_inserted P [] k v all new = (new, tt)
-  all_inserted P (e ∷ es) k v all new =
-      matched (AllByRecursion (λ e. P e.1)) (R k e.0) ((k, v) ∷ e ∷ es) ((e.0, v) ∷ es) (e ∷ insert_entry R es k v) (new, all) (new, all.1) (all.0, all_inserted P es k v all.1 new)
 
   -- a key that is above all goes to the end
   inserted_above : (o : IsTotalOrder R) (es : List (K × V)) (k : K) (v : V) → AllByRecursion (λ j. R j k ≡ Less) (keys_of es) → insert_entry R es k v ≡ es ++ (k, v) ∷ []

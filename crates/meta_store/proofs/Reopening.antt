@@ -1,5 +1,5 @@
 -- What a crash leaves while the two blobs are opened reads as something that a crash left before.
-use Rattle.std.proofs.Common.{◌≡◌, ◌⊎◌, inl, inr, ℕ, ◌<◌, ◌≤◌, ◌^◌, min, max, Bool, true, false, not, ◌||◌, cond, List, [], ◌∷◌, ◌++◌, length, take, Option, Some, None, refl, sym, ◌∙◌, ap, subst, arith}
+use Rattle.std.proofs.Common.{◌≡◌, inl, inr, ℕ, ◌<◌, ◌≤◌, ◌^◌, min, max, Bool, true, false, not, ◌||◌, cond, List, [], ◌∷◌, ◌++◌, length, take, Option, Some, None, refl, sym, ◌∙◌, ap, subst, arith}
 use Rattle.std.specs.List.{AllByRecursion}
 use Rattle.blob_device.specs.Disk.{Blob, Disk, HoldsBytes, PastAgrees, Agrees, AreBytes, AbsentIsNothing, MayHold, MayLeave, reads, past, least, greatest, shortest, longest, settled_at, nothing}
 use Rattle.blob_device.specs.Change.{Make, during}
@@ -16,10 +16,7 @@ use Rattle.meta_store.specs.Crashes.{SamePlace, SomeByRecursion, NoChanceSeal, R
 use Rattle.meta_store.specs.Opening.{Opens, as_before, begun, made, settled, Opening}
 use Rattle.meta_store.proofs.Leaving.{settled_content}
 use Rattle.meta_store.proofs.Sealing.{sealed_or_absent, same_place, reads_alike, empty_absent}
-
-true_or_false : (b : Bool) → (b ≡ true) ⊎ (b ≡ false)
-true_or_false true = inl refl
-true_or_false false = inr refl
+use Rattle.std.proofs.lemmas.Bool.{cases_Bool}
 
 -- what a device promises of a blob
 pub record IsPromised (b : Blob) : Type 0 where
@@ -114,7 +111,7 @@ module _ {K V : Type 0} (f : Format K V) where
         → NoChanceSeal f.seal (b.settled ∷ (b.since ++ [] ∷ [])) (bytes_of l) → LikeBefore b (bytes_of l)
     making there' b lawful there None may none = lacks_copy b [] there (empty_absent f.seal)
     making there' b lawful there (Some c) may none = elim (sealed_or_absent f.seal fits c may.1.bytes) [
-      | inl s ↦ elim (true_or_false b.unsure) [
+      | inl s ↦ elim (cases_Bool b.unsure) [
         | inl maybe ↦ find b lawful c s.version s.form s.body s.is maybe (past b) (past_held b lawful) (λ p is. own_seal (past b) p is) (none s.version s.form s.body s.is)
         | inr sure ↦ absurd (no_past s.version s.form s.body s.is (subst (λ (x : Blob). SomeByRecursion (λ p. SamePlace (copy_length s.form s.body) p c) (past x ++ [] ∷ [])) (lawful.absent there sure) (none s.version s.form s.body s.is)))
       ]

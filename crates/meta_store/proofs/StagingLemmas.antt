@@ -12,8 +12,9 @@ use Rattle.meta_store.specs.Entries.{PutsValue, Retained}
 use Rattle.meta_store.specs.Format.{Format}
 use Rattle.meta_store.specs.Staging.{HasPut, Puts, Retains, SetsFloor, StandsAsBefore}
 use Rattle.meta_store.specs.Store.{MayBeSynced, Seen, Stands, Store, contents_of, staging}
-use Rattle.meta_store.proofs.Inserting.{all_inserted, retained_all, retained_fewer, retained_has}
+use Rattle.meta_store.proofs.Inserting.{retained_all, retained_fewer, retained_has}
 use Rattle.meta_store.proofs.StandingLemmas.{stands_changed}
+use Rattle.blob_device.proofs.general.Maps.{all_inserted}
 
 or_true : (b : Bool) → true ≡ (b || true)
 or_true true = refl

@@ -13,7 +13,6 @@ use Rattle.blob_device.specs.declared.runtime.RError.{RError}
 use Rattle.blob_device.specs.declared.runtime.RError.TheVariants as runtime
 use Rattle.blob_device.proofs.Moments.{only_start, only_on, ok_blob, err_has}
 use Rattle.blob_device.proofs.Puts.{put_same, put_other, same_or_other}
-use Rattle.blob_device.proofs.Results.{err_of}
 use Rattle.sealed_pages.specs.declared.write_blob.WriteBlob.{WriteBlob}
 use Rattle.sealed_pages.specs.Entries.{IsOpenAt}
 use Rattle.sealed_pages.specs.unsealed.Writing.{Over, blob_key, is_unsettled, shown, size_of}
@@ -23,6 +22,7 @@ use Rattle.ordinal_store.specs.Calls.{StartsNoRead}
 use Rattle.ordinal_store.specs.Raised.{passed_on, raised}
 use Rattle.ordinal_store.specs.Stores.{Sight, now}
 use Rattle.ordinal_store.specs.declared.ordinal.Error.{Error}
+use Rattle.blob_device.proofs.general.Results.{err_of}
 
 module _ (told : Type 0) (key k : Key) (at : k ≡ key) (capacity : ℕ) (old new : Sight) (answer : Result ℕ DevError) (passes : told → Passes k Make answer old.time new.time) (faults : old.faults ≤ new.faults) where
   here : told → Passes key Make answer old.time new.time

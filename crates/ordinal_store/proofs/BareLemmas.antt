@@ -4,7 +4,6 @@ use Rattle.std.specs.Result.{IsErrAnd, IsErrOf}
 use Rattle.std.proofs.Common.{inl, inr, refl, sym, ◌∙◌, ap, subst}
 use Rattle.std.proofs.lemmas.Option.{none-some}
 use Rattle.blob_device.proofs.Moments.{always_now, always_weaker}
-use Rattle.blob_device.proofs.Results.{err_of}
 use Rattle.blob_device.specs.Disk.{Blob, Disk, Key, nothing}
 use Rattle.blob_device.specs.Timeline.{Always}
 use Rattle.ordinal_store.specs.Calls.{HasFailed, IsForeign, MayOpen, Opening, as_read}
@@ -19,6 +18,7 @@ use Rattle.ordinal_store.specs.declared.ordinal.Error.{Error}
 use Rattle.ordinal_store.specs.declared.ordinal.Error.TheVariants.{Full, InvalidBlobName, Mem}
 use Rattle.ordinal_store.proofs.OpenLemmas.{going_short, some_there}
 use Rattle.ordinal_store.proofs.RestoreLemmas.{none_are_ranges}
+use Rattle.blob_device.proofs.general.Results.{err_of}
 
 module _ {T : Type 0} (show : T → Store) (told : Type 0) (l : Layout) (capacity : ℕ) (old new : Sight) (goes : GoesAll (IsIn l.partition) told old new) where
   abbrev In : Key → Type 0

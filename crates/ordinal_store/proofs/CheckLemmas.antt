@@ -4,7 +4,6 @@ use Rattle.std.specs.Result.{IsErrAnd}
 use Rattle.std.proofs.Common.{inl, inr, refl, sym, ◌∙◌, ap, subst, arith}
 use Rattle.std.proofs.lemmas.Bool.{cases_lt, lt-ltb, ltb-true}
 use Rattle.blob_device.proofs.Moments.{always_start}
-use Rattle.blob_device.proofs.Results.{err_of}
 use Rattle.sealed_pages.specs.declared.write_blob.WriteBlob.{WriteBlob}
 use Rattle.sealed_pages.specs.unsealed.Writing.{blob_key, shown, size_of}
 use Rattle.sealed_pages.proofs.EntryLemmas.{only_read_start}
@@ -17,6 +16,7 @@ use Rattle.ordinal_store.specs.declared.ordinal.Error.{Error}
 use Rattle.ordinal_store.specs.declared.ordinal.Error.TheVariants.{InvalidRecord, MissingRecord}
 use Rattle.ordinal_store.proofs.ClearLemmas.{room_below}
 use Rattle.ordinal_store.proofs.TrailLemmas.{failed_as}
+use Rattle.blob_device.proofs.general.Results.{err_of}
 
 module _ (told : Type 0) (l : Layout) (s : ℕ) (u : WriteBlob) (old : Sight) (ready : IsReady told (blob_key (shown u)) u.capacity old u) (count : ℕ) (counted : count ≡ size_of (shown u) / slot_size l) where
   same_count : told → count ≡ count_in l (now old (blob_key (shown u))).content

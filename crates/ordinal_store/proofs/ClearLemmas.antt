@@ -10,7 +10,6 @@ use Rattle.blob_device.specs.Disk.{Key, Outside, longest}
 use Rattle.blob_device.specs.Timeline.{Always, Timeline, disk}
 use Rattle.blob_device.specs.declared.runtime.RError.{RError}
 use Rattle.blob_device.specs.declared.runtime.RError.TheVariants.{Fault, Mem}
-use Rattle.blob_device.proofs.Bytes.{length-written}
 use Rattle.blob_device.proofs.Moments.{always_start, always_now, always_then, always_weaker}
 use Rattle.sealed_pages.specs.declared.write_blob.WriteBlob.{WriteBlob}
 use Rattle.sealed_pages.specs.Contents.{AddsOnly, AllSince}
@@ -25,6 +24,7 @@ use Rattle.ordinal_store.specs.Stores.{Sight, now}
 use Rattle.ordinal_store.proofs.MendingLemmas.{marked_apart, outside_after, sparing_on}
 use Rattle.ordinal_store.proofs.PutLemmas.{slot_beside, slot_written}
 use Rattle.ordinal_store.proofs.StepLemmas.{all_short, longest_of}
+use Rattle.blob_device.specs.Lengths.{length-written}
 
 -- a slot stands whole in so many bytes exactly where its position is below their count of slots
 pub position_below : (p size n : ℕ) → 1 ≤ size → p * size + size ≤ n → p < n / size

@@ -9,7 +9,6 @@ use Rattle.std.specs.Int.{w64, to_be_bytes}
 use Rattle.std.specs.List.{Contains}
 use Rattle.blob_device.proofs.Moments.{always_start, always_now, always_then, always_weaker, only_start, only_on, ok_blob, err_has}
 use Rattle.blob_device.proofs.Puts.{same_or_other}
-use Rattle.blob_device.proofs.Results.{err_of}
 use Rattle.blob_device.specs.Counts.{Rose}
 use Rattle.blob_device.specs.Change.{Look, Remove}
 use Rattle.blob_device.specs.Disk.{AreNamesIn, Key, Blob, Disk, nothing}
@@ -28,6 +27,7 @@ use Rattle.ordinal_store.specs.Stores.{Sight, now}
 use Rattle.ordinal_store.specs.declared.ordinal.Error.{Error}
 use Rattle.ordinal_store.proofs.RemovingLemmas.{entry_left, going, going_nothing}
 use Rattle.ordinal_store.proofs.StepLemmas.{key_injective}
+use Rattle.blob_device.proofs.general.Results.{err_of}
 
 -- Each blob is as before or gone, and those of the first i names are gone.
 pub record EmptiedFirst (MayGo : Key → Type 0) (partition : List ℕ) (names : List (List ℕ)) (i : ℕ) (from d : Disk) : Type 0 where

@@ -4,7 +4,6 @@ use Rattle.std.specs.Int.{w64, to_be_bytes}
 use Rattle.std.specs.List.{Contains}
 use Rattle.std.specs.Result.{IsErrOf, IsErrAnd}
 use Rattle.std.proofs.Common.{inl, inr, refl, sym, subst}
-use Rattle.blob_device.proofs.Results.{err_of}
 use Rattle.blob_device.specs.Change.{Look}
 use Rattle.blob_device.specs.Counts.{Rose}
 use Rattle.blob_device.specs.Disk.{AreNamesIn}
@@ -18,6 +17,7 @@ use Rattle.ordinal_store.specs.Stores.{Sight, now}
 use Rattle.ordinal_store.specs.declared.ordinal.Error.{Error}
 use Rattle.ordinal_store.specs.declared.ordinal.Error.TheVariants.{InvalidBlobName, Mem}
 use Rattle.ordinal_store.proofs.EmptyingLemmas.{looked}
+use Rattle.blob_device.proofs.general.Results.{err_of}
 
 module _ {T U : Type 0} (numbers : U → List ℕ) (told : Type 0) (partition : List ℕ) (old mid : Sight) (answer : Result T DevError) (passes : told → Passes (partition, []) Look answer old.time mid.time)
     (opened : mid.opened ≡ old.opened) (faults : old.faults ≤ mid.faults) where

@@ -11,7 +11,6 @@ use Rattle.blob_device.specs.Timeline.{Timeline}
 use Rattle.blob_device.specs.declared.runtime.RError.{RError}
 use Rattle.blob_device.specs.declared.runtime.RError.TheVariants as runtime
 use Rattle.blob_device.proofs.Moments.{always_start}
-use Rattle.blob_device.proofs.Results.{err_of}
 use Rattle.sealed_pages.specs.declared.write_blob.WriteBlob.{WriteBlob}
 use Rattle.sealed_pages.specs.Contents.{AddsOnly}
 use Rattle.sealed_pages.specs.Entries.{IsOpenAt, NoReads}
@@ -30,6 +29,7 @@ use Rattle.ordinal_store.specs.declared.ordinal.Error.{Error}
 use Rattle.ordinal_store.specs.declared.ordinal.Error.TheVariants.{Mem}
 use Rattle.ordinal_store.proofs.ClearLemmas.{position_below, short_always, short_then}
 use Rattle.ordinal_store.proofs.TrailLemmas.{failed_as}
+use Rattle.blob_device.proofs.general.Results.{err_of}
 
 -- a buffer with nothing unsettled has no run, and its blob's bytes for its own
 module _ (u : WriteBlob) (clean : is_unsettled (shown u) ≡ false) where

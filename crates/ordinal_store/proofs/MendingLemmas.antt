@@ -6,9 +6,7 @@ use Rattle.blob_device.specs.Disk.{Key, Outside}
 use Rattle.blob_device.specs.Timeline.{Timeline}
 use Rattle.sealed_pages.specs.Sparing.{Sparing}
 use Rattle.sealed_pages.proofs.unsealed.SparingLemmas.{sparing_then}
-use Rattle.blob_device.proofs.Bytes.{length-written}
 use Rattle.sealed_pages.specs.View.{Within}
-use Rattle.std.proofs.Math.Nat.{mul-le-mul_right, add-mul}
 use Rattle.std.specs.Prelude.{Bool, Result, Ok, Err, OnErr}
 use Rattle.std.specs.Result.{IsErrOf}
 use Rattle.blob_device.specs.declared.runtime.RError.{RError}
@@ -16,19 +14,15 @@ use Rattle.blob_device.specs.declared.runtime.RError.TheVariants.{OffsetOverflow
 use Rattle.sealed_pages.specs.declared.write_blob.WriteBlob.{WriteBlob}
 use Rattle.sealed_pages.specs.unsealed.Writing.{HoldsOnly, WriteBuffer, blob_key, run_of}
 use Rattle.ordinal_store.specs.Mending.{IsInMarked, is_marked}
-
--- the slots before another one end where it begins, or below
-pub slots_below : (p q size : ℕ) → p < q → p * size + size ≤ q * size
-slots_below p q size below =
-    let most : (p + 1) * size ≤ q * size = mul-le-mul_right size (omega (arith, below)) in
-    omega (arith, most, add-mul p 1 size)
+use Rattle.blob_device.specs.Lengths.{length-written}
+use Rattle.blob_device.proofs.general.Numbers.{times_more}
 
 -- two slots share no place
 pub slots_apart : (p q size i : ℕ) → p ≢ q → Within (q * size) size i → (i < p * size) ⊎ (p * size + size ≤ i)
 slots_apart p q size i apart within = elim (cases_lt p q) [
-  | inl less ↦ inr (omega (arith, slots_below p q size less, within.low))
+  | inl less ↦ inr (omega (arith, times_more p q size less, within.low))
   | inr not_less ↦ elim (cases_lt q p) [
-    | inl more ↦ inl (omega (arith, slots_below q p size more, within.high))
+    | inl more ↦ inl (omega (arith, times_more q p size more, within.high))
     | inr same ↦ absurd (apart (omega (arith, not_less, same)))
   ]
 ]

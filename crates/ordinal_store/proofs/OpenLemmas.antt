@@ -7,7 +7,6 @@ use Rattle.std.proofs.Common.{inl, inr, refl, sym, ◌∙◌, ap, subst, arith, 
 use Rattle.std.proofs.lemmas.List.{get_or-map, length-map}
 use Rattle.std.proofs.lemmas.Option.{get_or_from_slice_get, none-some, slice_get-get_or}
 use Rattle.blob_device.proofs.Moments.{always_now, always_then, always_weaker}
-use Rattle.blob_device.proofs.Results.{err_of}
 use Rattle.blob_device.specs.Disk.{AreNamesIn, Blob, Disk, Key, longest, nothing}
 use Rattle.blob_device.specs.Timeline.{Always}
 use Rattle.sealed_pages.specs.Reading.{Unchanged}
@@ -23,6 +22,7 @@ use Rattle.ordinal_store.specs.declared.ordinal.Error.TheVariants.{Full, Invalid
 use Rattle.ordinal_store.proofs.FinishLemmas.{committed_end, held_end, kept_end, mended_end, slots_end, unkept_end, usable_end, whole_end}
 use Rattle.ordinal_store.proofs.StepLemmas.{key_injective, section_small, stays_start, stays_then}
 use Rattle.ordinal_store.proofs.TrailLemmas.{failed_as}
+use Rattle.blob_device.proofs.general.Results.{err_of}
 
 -- a removal under way or done makes no crash longer
 pub going_short : (from b : Blob) (n : ℕ) → IsGoing from b → longest from ≤ n → longest b ≤ n

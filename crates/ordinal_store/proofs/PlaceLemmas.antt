@@ -7,7 +7,6 @@ use Rattle.blob_device.specs.Change.{written}
 use Rattle.blob_device.specs.Disk.{Blob, Key, Outside}
 use Rattle.blob_device.specs.Opened.{Opened, OpenedList, reads_of}
 use Rattle.blob_device.specs.Timeline.{OnlyAt}
-use Rattle.blob_device.proofs.Bytes.{length-written}
 use Rattle.blob_device.proofs.Moments.{always_now}
 use Rattle.blob_device.proofs.Puts.{same_or_other}
 use Rattle.sealed_pages.specs.declared.write_blob.WriteBlob.{WriteBlob}
@@ -24,6 +23,7 @@ use Rattle.ordinal_store.proofs.MendingLemmas.{outside_after, slots_apart}
 use Rattle.ordinal_store.proofs.PutLemmas.{positions_differ, slot_beside, slot_inside, slot_written, stays_written}
 use Rattle.ordinal_store.proofs.StepLemmas.{Replaces, section_small, slots_here, slots_there, usable_after}
 use Rattle.ordinal_store.proofs.TrailLemmas.{Trail}
+use Rattle.blob_device.specs.Lengths.{length-written}
 
 few_reads : (x : Option Opened) (n : ℕ) → IsSomeAnd x (λ o. o.reads ≡ n) → reads_of x ≤ n
 few_reads None n is = absurd is

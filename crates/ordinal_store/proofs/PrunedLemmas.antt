@@ -5,7 +5,6 @@ use Rattle.std.specs.Result.{IsErrAnd}
 use Rattle.std.proofs.Math.Nat.{div-le_self}
 use Rattle.std.proofs.lemmas.Bool.{cases_lt}
 use Rattle.blob_device.proofs.Moments.{always_weaker}
-use Rattle.blob_device.proofs.Results.{err_of}
 use Rattle.blob_device.specs.Disk.{Blob, Disk, longest}
 use Rattle.blob_device.specs.Timeline.{Always}
 use Rattle.sealed_pages.specs.View.{Within}
@@ -18,6 +17,7 @@ use Rattle.ordinal_store.specs.Slots.{Layout, blob_of, place_of, position_of, se
 use Rattle.ordinal_store.specs.Stores.{IsQuiet, IsQuietIn, IsUsable, Sight, Store, has, key_of, now, slots_of}
 use Rattle.ordinal_store.specs.declared.ordinal.Error.{Error}
 use Rattle.ordinal_store.proofs.RemovingLemmas.{key_injective, some_of}
+use Rattle.blob_device.proofs.general.Results.{err_of}
 
 -- a crash leaves no more of a blob than before
 going_longest : (from b : Blob) (n : ℕ) → IsGoing from b → longest from ≤ n → longest b ≤ n

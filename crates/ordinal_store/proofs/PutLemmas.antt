@@ -8,8 +8,6 @@ use Rattle.std.proofs.Math.Nat.{mod-lt, mod-add-div}
 use Rattle.blob_device.specs.Change.{written}
 use Rattle.blob_device.specs.Disk.{Disk, Key, Outside, longest, past}
 use Rattle.blob_device.specs.Timeline.{Always, OnlyAt, Timeline, disk}
-use Rattle.blob_device.proofs.Bytes.{length-written}
-use Rattle.blob_device.proofs.Places.{written_in, written_out}
 use Rattle.blob_device.proofs.Puts.{same_or_other}
 use Rattle.sealed_pages.specs.Contents.{AddsOnly}
 use Rattle.sealed_pages.specs.Sparing.{Spares, Sparing}
@@ -21,9 +19,12 @@ use Rattle.ordinal_store.specs.Durable.{IsDurable, Stays}
 use Rattle.ordinal_store.specs.Slots.{Layout, place_of, position_of, section_of, slot_at, slot_size}
 use Rattle.ordinal_store.specs.Stores.{IsQuiet, Store, key_of}
 use Rattle.ordinal_store.proofs.DurableLemmas.{part_there}
-use Rattle.ordinal_store.proofs.MendingLemmas.{slots_apart, slots_below}
+use Rattle.ordinal_store.proofs.MendingLemmas.{slots_apart}
 use Rattle.ordinal_store.proofs.StayLemmas.{durable_here, durable_there, put_spares}
 use Rattle.ordinal_store.proofs.StepLemmas.{all_short, keys_differ, longest_of, section_small}
+use Rattle.blob_device.specs.Lengths.{length-written}
+use Rattle.blob_device.specs.Places.{written_in, written_out}
+use Rattle.blob_device.proofs.general.Numbers.{times_more}
 
 -- two indices of one section have different positions
 pub positions_differ : (l : Layout) (i j : ℕ) → j ≢ i → section_of l j ≡ section_of l i → position_of l i ≢ position_of l j
@@ -32,7 +33,7 @@ positions_differ l i j other same position = other
 
 -- a slot ends with its section's slots, or before
 pub slot_inside : (l : Layout) (i : ℕ) → 1 ≤ l.items → place_of l i + slot_size l ≤ l.items * slot_size l
-slot_inside l i some = slots_below (position_of l i) l.items (slot_size l) (mod-lt i (omega (arith, some)))
+slot_inside l i some = times_more (position_of l i) l.items (slot_size l) (mod-lt i (omega (arith, some)))
 
 -- the slot that was written
 pub slot_written : (size p : ℕ) (bytes slot : List ℕ) → length slot ≡ size → slot_at size (written bytes (p * size) slot) p ≡ slot

@@ -2,7 +2,6 @@
 use Rattle.std.specs.Prelude.{◌≡◌, ℕ, ◌≤◌, List, length, Result, Ok, Err}
 use Rattle.std.specs.Result.{IsErrAnd}
 use Rattle.std.proofs.Common.{sym, subst}
-use Rattle.blob_device.proofs.Results.{err_of}
 use Rattle.sealed_pages.specs.Entries.{ReadsAtMost}
 use Rattle.sealed_pages.specs.Reading.{Unchanged}
 use Rattle.sealed_pages.specs.unsealed.Writing.{WriteBuffer, blob_key, bytes_of}
@@ -11,6 +10,7 @@ use Rattle.ordinal_store.specs.Slots.{part_at}
 use Rattle.ordinal_store.specs.Steps.{PartRead}
 use Rattle.ordinal_store.specs.Stores.{Sight, now}
 use Rattle.ordinal_store.specs.declared.ordinal.Error.{Error}
+use Rattle.blob_device.proofs.general.Results.{err_of}
 
 module _ {T : Type 0} (items : T → List ℕ) (told : Type 0) (u : WriteBuffer) (at n : ℕ) (old new : Sight) (unchanged : told → Unchanged old.time new.time) (reads : ReadsAtMost 1 (blob_key u) old.opened new.opened) (faults : old.faults ≤ new.faults) where
   part_err : (e : Error) → HasFailed {T = T} (Err e) old new → PartRead items told u at n (Err e) old new

@@ -5,7 +5,6 @@ use Rattle.std.specs.Result.{IsErrAnd}
 use Rattle.std.proofs.lemmas.Bool.{cases_eq}
 use Rattle.blob_device.proofs.Moments.{always_start, always_now, always_then, always_weaker}
 use Rattle.blob_device.proofs.Puts.{same_or_other}
-use Rattle.blob_device.proofs.Results.{err_of}
 use Rattle.blob_device.specs.Disk.{Key, Blob, Disk, nothing}
 use Rattle.blob_device.specs.Timeline.{OnlyAt}
 use Rattle.ordinal_store.specs.Calls.{HasFailed, IsBlobOf}
@@ -15,6 +14,7 @@ use Rattle.ordinal_store.specs.Slots.{Layout, blob_of, section_of}
 use Rattle.ordinal_store.specs.Stores.{IsUsable, Sight, Store, has, key_of, now}
 use Rattle.ordinal_store.specs.declared.ordinal.Error.{Error}
 use Rattle.ordinal_store.proofs.RemovingLemmas.{going_nothing, key_injective, some_of}
+use Rattle.blob_device.proofs.general.Results.{err_of}
 
 module _ (o : Store) (bound : Option ℕ) (told : Type 0) where
   pub goes_start : (v : Sight) → Goes o bound told v v

@@ -16,7 +16,6 @@ use Rattle.blob_device.specs.Timeline.{Timeline, disk, Passes, Always, OnlyAt}
 use Rattle.blob_device.proofs.Moments.{always_now, only_start, only_on, ok_blob, err_has}
 use Rattle.blob_device.proofs.OpenedLemmas.{left_other}
 use Rattle.blob_device.proofs.Puts.{put_same, same_or_other}
-use Rattle.blob_device.proofs.Results.{err_of}
 use Rattle.sealed_pages.specs.declared.write_blob.WriteBlob.{WriteBlob}
 use Rattle.sealed_pages.specs.unsealed.Writing.{Over, shown, size_of}
 use Rattle.ordinal_store.specs.declared.ordinal.Error.{Error}
@@ -28,6 +27,8 @@ use Rattle.ordinal_store.specs.Ranges.{AreRanges, set_of}
 use Rattle.ordinal_store.specs.Removing.{Dropping, GoesOne, IsFirst, IsWithout}
 use Rattle.ordinal_store.specs.Slots.{place_of, section_key, section_of, slot_size}
 use Rattle.ordinal_store.specs.Stores.{IsUsable, Sight, StandsOver, Store, key_of, now}
+use Rattle.blob_device.proofs.general.Results.{err_of}
+use Rattle.blob_device.proofs.general.Options.{some_there}
 
 pub key_injective : (partition : List ℕ) (s t : ℕ) → s < 2 ^ 64 → t < 2 ^ 64 → section_key partition s ≡ section_key partition t → s ≡ t
 key_injective partition s t s_small t_small is =
@@ -36,9 +37,6 @@ key_injective partition s t s_small t_small is =
 pub some_of : {T : Type 0} (P : T → Type 0) (o : Option T) → IsSomeAnd o P → IsSome o
 some_of P None is = absurd is
 some_of P (Some v) is = refl
-
-pub some_is : {T : Type 0} (o : Option T) (v : T) → o ≡ Some v → IsSome o
-some_is o v is = subst IsSome (sym is) refl
 
 -- The last index of a section, as it saturates, parts the indices of the sections above from the others.
 pub last_parts : (items s : ℕ) → 1 ≤ items → (j : ℕ) → j < 2 ^ 64 → (min (min (s * items) (2 ^ 64 - 1) + (items - 1)) (2 ^ 64 - 1) < j) ↔ (s < j / items)
@@ -143,7 +141,7 @@ module _ (told : Type 0) (o : Store) (s last : ℕ) (ranges : List (ℕ × ℕ))
   was_there q some = subst IsSome (others q (other_section q some)) some
 
   was : (q : ℕ) (u : WriteBlob) → buffers q ≡ Some u → o.buffers q ≡ Some u
-  was q u is = sym (others q (other_section q (some_is (buffers q) u is))) ∙ is
+  was q u is = sym (others q (other_section q (some_there (buffers q) u is))) ∙ is
 
   s_small : s < 2 ^ 64
   s_small = usable.number s first.some
@@ -162,7 +160,7 @@ module _ (told : Type 0) (o : Store) (s last : ℕ) (ranges : List (ℕ × ℕ))
 
   stands : told → StandsOver without (now new)
   stands t = record {
-    over = λ q u is. (let some : IsSome (buffers q) = some_is (buffers q) u is in
+    over = λ q u is. (let some : IsSome (buffers q) = some_there (buffers q) u is in
         subst (Over (shown u)) (sym (same_blob t q (usable.number q (was_there q some)) (other_section q some))) ((usable.disk t).over q u (was q u is)));
     whose = λ q small there. elim (cases_eq q s) [
       | inl same ↦ absurd (let is : now new (key_of o q) ≡ nothing = ap (λ (n : ℕ). now new (key_of o n)) same ∙ gone t in cc (sym there ∙ ap (λ (b : Blob). b.there) is))
@@ -179,12 +177,12 @@ module _ (told : Type 0) (o : Store) (s last : ℕ) (ranges : List (ℕ × ℕ))
     first = λ q some. usable.first q (was_there q some);
     capacity = λ q u is. usable.capacity q u (was q u is);
     key = λ q u is. usable.key q u (was q u is);
-    is_open = λ q u is. (let some : IsSome (buffers q) = some_is (buffers q) u is in
+    is_open = λ q u is. (let some : IsSome (buffers q) = some_there (buffers q) u is in
         subst (λ (e : _). IsSomeAnd e (λ x. x.len ≡ u.end)) (sym (same_entry q (usable.number q (was_there q some)) (other_section q some))) (usable.is_open q u (was q u is)));
     room = λ j is. (let kept = (is_without.held j).0 is in
         subst (λ (b : Option WriteBlob). IsSomeAnd b (λ u. place_of o.layout j + slot_size o.layout ≤ size_of (shown u))) (sym (others (section_of o.layout j) kept.1)) (usable.room j kept.0));
     bounded = λ q u is. usable.bounded q u (was q u is);
-    unwritten = λ q u is clean. usable.unwritten q u (was q u is) (sym (noted q (other_section q (some_is (buffers q) u is))) ∙ clean);
+    unwritten = λ q u is clean. usable.unwritten q u (was q u is) (sym (noted q (other_section q (some_there (buffers q) u is))) ∙ clean);
     disk = stands;
   }
 

@@ -7,7 +7,6 @@ use Rattle.blob_device.specs.Disk.{Blob, Disk, Key, MayLeave, longest, reads, se
 use Rattle.blob_device.specs.Timeline.{Always, OnlyAt}
 use Rattle.blob_device.proofs.GuardsLemmas.{guards_done}
 use Rattle.blob_device.proofs.Moments.{always_now, always_then, always_weaker}
-use Rattle.blob_device.proofs.Results.{err_of}
 use Rattle.sealed_pages.specs.declared.write_blob.WriteBlob.{WriteBlob}
 use Rattle.sealed_pages.specs.Sparing.{Spares}
 use Rattle.sealed_pages.specs.View.{Within}
@@ -22,6 +21,7 @@ use Rattle.ordinal_store.proofs.ClearLemmas.{position_below}
 use Rattle.ordinal_store.proofs.DurableLemmas.{stands_spared}
 use Rattle.ordinal_store.proofs.MendLemmas.{whole_room}
 use Rattle.ordinal_store.proofs.TrailLemmas.{failed_as}
+use Rattle.blob_device.proofs.general.Results.{err_of}
 
 pub restores_start : (size : ℕ) (marks : Option (List Bool)) (b : Blob) → Restores size marks b b
 restores_start size marks b = record { slots = λ p slot left len stands. stands; short = λ n most. most }

@@ -16,7 +16,6 @@ use Rattle.std.proofs.lemmas.Map.Lookups.{exact_unsigned}
 use Rattle.std.proofs.lemmas.Map.Keys.{IsDistinct-from_sorted, sorted_tail}
 use Rattle.std.proofs.lemmas.Option.{none-some}
 use Rattle.blob_device.proofs.Moments.{always_now, always_start, always_weaker}
-use Rattle.blob_device.proofs.Results.{err_of}
 use Rattle.blob_device.specs.Disk.{Blob, Disk, Key, longest}
 use Rattle.blob_device.specs.Timeline.{Always, OnlyAt}
 use Rattle.sealed_pages.specs.unsealed.Writing.{Over, shown, size_of}
@@ -37,6 +36,7 @@ use Rattle.ordinal_store.proofs.PlaceLemmas.{same_truth}
 use Rattle.ordinal_store.proofs.SeatLemmas.{not_true}
 use Rattle.ordinal_store.proofs.StepLemmas.{keys_differ, section_small, stays_start, stays_then}
 use Rattle.ordinal_store.proofs.TrailLemmas.{failed_as}
+use Rattle.blob_device.proofs.general.Results.{err_of}
 
 -- the list of the entries that are left of a map, as a marking
 abbrev pub Entries : Type 0

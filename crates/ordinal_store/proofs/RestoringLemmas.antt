@@ -5,7 +5,6 @@ use Rattle.std.proofs.Common.{inl, inr, refl, sym, ◌∙◌, ap, subst, arith}
 use Rattle.std.proofs.lemmas.Bool.{cases_lt}
 use Rattle.std.proofs.lemmas.Nat.{div-mul-add}
 use Rattle.blob_device.proofs.Moments.{always_now, always_then, always_weaker}
-use Rattle.blob_device.proofs.Results.{err_of}
 use Rattle.blob_device.specs.Disk.{Disk, Key}
 use Rattle.blob_device.specs.Timeline.{OnlyAt}
 use Rattle.sealed_pages.specs.declared.write_blob.WriteBlob.{WriteBlob}
@@ -18,6 +17,7 @@ use Rattle.ordinal_store.specs.Stores.{Sight, Store, key_of, now}
 use Rattle.ordinal_store.specs.declared.ordinal.Error.{Error}
 use Rattle.ordinal_store.specs.declared.ordinal.Error.TheVariants.{InvalidRecord, Mem, MissingRecord}
 use Rattle.ordinal_store.proofs.TrailLemmas.{failed_as}
+use Rattle.blob_device.proofs.general.Results.{err_of}
 
 -- What is faulty of the mended bytes is faulty of those that were there.
 module _ (l : Layout) (marks : Option (List Bool)) (c m : List ℕ) (made : IsMade (slot_size l) marks c m) where

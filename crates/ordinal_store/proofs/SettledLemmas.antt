@@ -6,9 +6,7 @@ use Rattle.std.proofs.lemmas.List.{get_or-take, get_or-drop}
 use Rattle.blob_device.specs.Disk.{Blob, Disk, Key, Outside, longest}
 use Rattle.blob_device.specs.Opened.{OpenedList}
 use Rattle.blob_device.specs.Timeline.{Always, OnlyAt, Timeline, disk}
-use Rattle.blob_device.proofs.Bytes.{length-written}
 use Rattle.blob_device.proofs.GuardsLemmas.{guards_settled}
-use Rattle.blob_device.proofs.Places.{written_out}
 use Rattle.blob_device.proofs.Puts.{same_or_other}
 use Rattle.sealed_pages.specs.Contents.{AddsOnly}
 use Rattle.sealed_pages.specs.Sparing.{Spares, Sparing}
@@ -23,6 +21,8 @@ use Rattle.ordinal_store.specs.Stores.{IsCommitted, IsQuiet, IsQuietIn, IsUsable
 use Rattle.ordinal_store.proofs.PutLemmas.{bytes_short, short_since}
 use Rattle.ordinal_store.proofs.StayLemmas.{durable_here, durable_there}
 use Rattle.ordinal_store.proofs.StepLemmas.{keys_differ, section_small}
+use Rattle.blob_device.specs.Lengths.{length-written}
+use Rattle.blob_device.specs.Places.{written_out}
 
 module _ (o : Store) (s : ℕ) (small : s < 2 ^ 64) (u : WriteBlob) (at : o.buffers s ≡ Some u) (t0 t1 : Timeline) (over : Over (shown u) (disk t0 (key_of o s)))
     (bounded : size_of (shown u) ≤ max u.settled (o.layout.items * slot_size o.layout)) (spares : Sparing (Outside (run_of (shown u) ∷ [])) u.settled (key_of o s) t0 t1)

@@ -6,7 +6,6 @@ use Rattle.std.proofs.Math.Nat.{add-mul, mul-le-mul_right}
 use Rattle.std.proofs.lemmas.Bool.{cases_lt}
 use Rattle.std.proofs.lemmas.List.{drop-drop}
 use Rattle.blob_device.proofs.Moments.{always_now, always_start, always_then, always_weaker}
-use Rattle.blob_device.proofs.Results.{err_of}
 use Rattle.blob_device.specs.Disk.{Disk, Key}
 use Rattle.blob_device.specs.Timeline.{Timeline}
 use Rattle.sealed_pages.specs.declared.write_blob.WriteBlob.{WriteBlob}
@@ -21,8 +20,9 @@ use Rattle.ordinal_store.specs.Stores.{Sight, now}
 use Rattle.ordinal_store.specs.declared.ordinal.Error.{Error}
 use Rattle.ordinal_store.specs.declared.ordinal.Error.TheVariants.{Mem}
 use Rattle.ordinal_store.proofs.MendLemmas.{rested_bytes, slot_cut}
-use Rattle.ordinal_store.proofs.MendingLemmas.{slots_below}
 use Rattle.ordinal_store.proofs.TrailLemmas.{failed_as}
+use Rattle.blob_device.proofs.general.Numbers.{times_more}
+use Rattle.blob_device.proofs.general.Results.{err_of}
 
 pub unchanged_then : (a b c : Timeline) → Unchanged a b → Unchanged b c → Unchanged a c
 unchanged_then a b c first second =
@@ -52,7 +52,7 @@ sound_cut l c count n k is room s = record {
 }
   where
     inside : (p : ℕ) → p < count → p * slot_size l + slot_size l ≤ n
-    inside p below = omega (arith, slots_below p count (slot_size l) below, is)
+    inside p below = omega (arith, times_more p count (slot_size l) below, is)
 
 -- a slot behind so many is one of the rest
 slot_behind : (size from p : ℕ) (c : List ℕ) → slot_at size (drop (from * size) c) p ≡ slot_at size c (from + p)

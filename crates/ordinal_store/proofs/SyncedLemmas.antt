@@ -3,7 +3,6 @@ use Rattle.std.specs.Prelude.{◌≡◌, ℕ, ◌≤◌, IsSome, IsTrue, Result,
 use Rattle.std.specs.Result.{IsErrAnd}
 use Rattle.std.proofs.Common.{refl, sym, ◌∙◌, ap, subst}
 use Rattle.blob_device.specs.Disk.{Key}
-use Rattle.blob_device.proofs.Results.{err_of}
 use Rattle.ordinal_store.specs.Calls.{HasFailed, IsBlobOf, Syncing}
 use Rattle.ordinal_store.specs.Slots.{Layout, blob_of}
 use Rattle.ordinal_store.specs.Steps.{SameSlots, Stepping}
@@ -12,6 +11,7 @@ use Rattle.ordinal_store.specs.declared.ordinal.Error.{Error}
 use Rattle.ordinal_store.proofs.SeatLemmas.{not_true}
 use Rattle.ordinal_store.proofs.SettledLemmas.{all_committed}
 use Rattle.ordinal_store.proofs.TrailLemmas.{Trail, failed_as, trail_start, trail_then}
+use Rattle.blob_device.proofs.general.Results.{err_of}
 
 module _ (told : Type 0) (o : Store) where
   abbrev pub Written : Key → Type 0

@@ -3,7 +3,6 @@ use Rattle.std.specs.Prelude.{◌≡◌, ◌≢◌, ℕ, ◌≤◌, cond, nat_eq
 use Rattle.std.specs.Result.{IsErrAnd}
 use Rattle.std.proofs.Common.{inl, inr, refl, sym, ◌∙◌, ap, subst, arith}
 use Rattle.blob_device.proofs.Moments.{always_start, always_weaker}
-use Rattle.blob_device.proofs.Results.{err_of}
 use Rattle.blob_device.specs.Disk.{Key}
 use Rattle.blob_device.specs.Timeline.{Always}
 use Rattle.blob_device.specs.declared.runtime.RError.TheVariants as runtime
@@ -17,6 +16,7 @@ use Rattle.ordinal_store.specs.Stores.{IsQuiet, IsUsable, Sight, Store, key_of, 
 use Rattle.ordinal_store.specs.declared.ordinal.Error.{Error}
 use Rattle.ordinal_store.specs.declared.ordinal.Error.TheVariants.{Mem, Runtime}
 use Rattle.ordinal_store.proofs.StepLemmas.{stays_start, stays_then}
+use Rattle.blob_device.proofs.general.Results.{err_of}
 
 -- what holds of a call so far
 pub record Trail (told : Type 0) (l : Layout) (IsSpared : ℕ → Type 0) (MayTouch : Key → Type 0) (old new : Sight) : Type 0 where

@@ -17,7 +17,6 @@ use Rattle.blob_device.specs.Disk.{Key, Blob, Disk, Outside}
 use Rattle.blob_device.specs.Change.{Make, done}
 use Rattle.blob_device.specs.Opened.{Opened, OpenedList}
 use Rattle.blob_device.specs.Timeline.{Timeline, disk, OnlyAt}
-use Rattle.blob_device.proofs.Bytes.{length-written}
 use Rattle.blob_device.proofs.Moments.{always_start, always_then, always_weaker, always_now}
 use Rattle.sealed_pages.specs.declared.write_blob.WriteBlob.{WriteBlob}
 use Rattle.sealed_pages.specs.Contents.{KeepsAll, AddsOnly}
@@ -32,10 +31,11 @@ use Rattle.section_manager.specs.Sections.{Sections, key_of}
 use Rattle.section_manager.specs.unsealed.Buffer.{Stands, IsWhole, KeepsBytes, content_of, count_of, is_unsettled}
 use Rattle.section_manager.specs.unsealed.Laws.{passes, idle_parts}
 use Rattle.section_manager.proofs.buffers.UnsealedCalls.{crash_keeps, front_itself}
-use Rattle.section_manager.proofs.WalkLemmas.{none_or_value}
 use Rattle.paired.specs.glob.Lasting.{Outlasts, IsBeginning, settled_bytes}
 use Rattle.paired.specs.glob.Sections.{section_bytes, section_size, settled_size, size_held, settled_held, HadFronts, TakesMore, IsGlob}
 use Rattle.paired.proofs.GlobLemmas.{buffers, kept_front, front_longer, fronts_longer, Serves, idle_serves, serves_of, outlasts_of, held_bytes, no_bytes}
+use Rattle.blob_device.specs.Lengths.{length-written}
+use Rattle.blob_device.proofs.general.Options.{none_or_value}
 
 outside_none : (at n i : ℕ) → n ≡ 0 → (i < at) ⊎ (at + n ≤ i)
 outside_none at n i none = elim (cases_lt i at) [

@@ -10,13 +10,13 @@ use Rattle.sealed_pages.specs.View.{view}
 use Rattle.section_manager.specs.declared.journal.Damage.{Damage}
 use Rattle.section_manager.specs.Sections.{Sections, section_key, IsHeld}
 use Rattle.section_manager.specs.Setting.{Setting}
-use Rattle.section_manager.proofs.WalkLemmas.{none_or_value}
 use Rattle.segments.specs.FixedFloors.{IsBoundary}
 use Rattle.paired.specs.glob.Sections.{size_held, section_bytes, section_size, IsGlob}
 use Rattle.paired.specs.Kept.{Layout, content_at}
 use Rattle.paired.specs.Opening.{as_read}
 use Rattle.paired.specs.OpeningRefusing.{EndsWithin, IsLost, IsOutside}
 use Rattle.paired.proofs.GlobLemmas.{buffers, section_counted}
+use Rattle.blob_device.proofs.general.Options.{none_or_value}
 
 -- the item of a boundary
 pub record Bounded {V : Type 0} (B : V → Type 0) (o : Option (Option V)) : Type 0 where

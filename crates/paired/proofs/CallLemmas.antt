@@ -11,13 +11,10 @@ use Rattle.section_manager.specs.Setting.{Setting}
 use Rattle.section_manager.specs.Sections.{Sections, section_key, key_of, IsHeld, IsKnown, IsGone, IsSame, SameBounds, IsOver, IsSynced, IsCut}
 use Rattle.section_manager.specs.Lasting.{Syncing, Cutting, Truncating, Removing, IsLonger, IsUnsettled}
 use Rattle.section_manager.proofs.sections.RemoveLemmas.{gone_unknown}
-use Rattle.section_manager.proofs.WalkLemmas.{none_or_value, value_of, some_same}
 use Rattle.paired.specs.glob.Sections.{section_bytes, HasSettled, IsAllSettled, IsGlob}
 use Rattle.paired.proofs.GlobLemmas.{buffers, Serves, serves_of, glob_one, no_bytes, other_key, same_bytes}
 use Rattle.paired.proofs.StepLemmas.{of_some, Steps, step_synced, step_cut, step_same, glob_steps, synced_bytes, synced_settled, synced_all, cut_bytes, cut_settled, cut_all}
-
-pub some_held : {T : Type 0} (o : Option T) (v : T) → o ≡ Some v → IsSome o
-some_held o v is = subst IsSome (sym is) refl
+use Rattle.blob_device.proofs.general.Options.{none_or_value, some_same, some_there, value_of}
 
 pub held_some : {T : Type 0} (o : Option T) → IsSome o → (v : T) × (o ≡ Some v)
 held_some None held = absurd (cc held)
@@ -71,7 +68,7 @@ module _ {F : Type 0} (gives : F → Setting) {told : Type 0} (m n : Sections F 
       (others : (s : ℕ) → (Named s → ⊥) → n.held s ≡ m.held s) (moments : told → Each (Syncing buffers m Named d) e) where
     unsynced_blob : told → (s : ℕ) → IsHeld m s → (Named s → ⊥) → e (key_of m s) ≡ d (key_of m s)
     unsynced_blob t s held not_named = (moments t (key_of m s)).others
-        (other_key m (λ q. Named q × IsUnsettled buffers m q) (λ q p. let w = value_of (m.held q) _ p.1 in known_small q (inl (some_held (m.held q) w.value w.is))) s (known_small s (inl held)) (λ p. not_named p.0))
+        (other_key m (λ q. Named q × IsUnsettled buffers m q) (λ q p. let w = value_of (m.held q) _ p.1 in known_small q (inl (some_there (m.held q) w.value w.is))) s (known_small s (inl held)) (λ p. not_named p.0))
 
     synced : (s : ℕ) (u v : WriteBlob) → Named s → m.held s ≡ Some u → n.held s ≡ Some v → IsSynced buffers told u v (d (key_of m s)) (e (key_of m s))
     synced s u v is was now = of_some (n.held s) (λ w. IsSynced buffers told u w (d (key_of m s)) (e (key_of m s))) v now (named s u is was)
@@ -79,7 +76,7 @@ module _ {F : Type 0} (gives : F → Setting) {told : Type 0} (m n : Sections F 
     pub sync_glob : (told → (s : ℕ) → IsSome (n.unopened s) → n.ceiling < s) → IsGlob buffers gives told n new e
     sync_glob unopened = glob_steps gives m n old new d e glob over place none (λ s u v was now. elim (named_or_not s) [
       | inl is ↦ step_synced u v (d (key_of m s)) (e (key_of m s)) (synced s u v is was now)
-      | inr not_named ↦ step_same u v (d (key_of m s)) (e (key_of m s)) (some_same v u (sym now ∙ others s not_named ∙ was)) (λ t. unsynced_blob t s (some_held (m.held s) u was) not_named)
+      | inr not_named ↦ step_same u v (d (key_of m s)) (e (key_of m s)) (some_same v u (sym now ∙ others s not_named ∙ was)) (λ t. unsynced_blob t s (some_there (m.held s) u was) not_named)
     ]) unopened
 
     pub sync_bytes : told → (s : ℕ) → section_bytes n e s ≡ section_bytes m d s
@@ -145,12 +142,12 @@ module _ {F : Type 0} (gives : F → Setting) {told : Type 0} (m n : Sections F 
     uncut_blob : told → (s : ℕ) → IsHeld m s → size_of s ≡ None → e (key_of m s) ≡ d (key_of m s)
     uncut_blob t s held unnamed = (moments t (key_of m s)).others
         (other_key m (λ q. IsSomeAnd (size_of q) (IsLonger buffers m q))
-        (λ q p. let k = value_of (size_of q) _ p in let w = value_of (m.held q) _ k.has in known_small q (inl (some_held (m.held q) w.value w.is)))
+        (λ q p. let k = value_of (size_of q) _ p in let w = value_of (m.held q) _ k.has in known_small q (inl (some_there (m.held q) w.value w.is)))
         s (known_small s (inl held)) (λ p. let k = value_of (size_of s) _ p in absurd (cc (k.is, unnamed))))
 
     pub cuts_glob : (told → (s : ℕ) → IsSome (n.unopened s) → n.ceiling < s) → IsGlob buffers gives told n new e
     cuts_glob unopened = glob_steps gives m n old new d e glob over place none (λ s u v was now. elim (none_or_value (size_of s)) [
-      | inl unnamed ↦ step_same u v (d (key_of m s)) (e (key_of m s)) (some_same v u (sym now ∙ others s unnamed ∙ was)) (λ t. uncut_blob t s (some_held (m.held s) u was) unnamed)
+      | inl unnamed ↦ step_same u v (d (key_of m s)) (e (key_of m s)) (some_same v u (sym now ∙ others s unnamed ∙ was)) (λ t. uncut_blob t s (some_there (m.held s) u was) unnamed)
       | inr is ↦ one_cut s is.0 (λ w held. cut s is.0 w is.1 held) u v was now
     ]) unopened
 
@@ -172,7 +169,7 @@ module _ {F : Type 0} (gives : F → Setting) {told : Type 0} (m n : Sections F 
         (λ s u v was now. elim (cases_lt target s) [
           | inl behind ↦ absurd (cc (now, (later s behind).held))
           | inr up_to ↦ elim (cases_lt s target) [
-            | inl before ↦ step_same u v (d (key_of m s)) (e (key_of m s)) (some_same v u (sym now ∙ (earlier s before).held ∙ was)) (λ t. earlier_blob t s (some_held (m.held s) u was) before)
+            | inl before ↦ step_same u v (d (key_of m s)) (e (key_of m s)) (some_same v u (sym now ∙ (earlier s before).held ∙ was)) (λ t. earlier_blob t s (some_there (m.held s) u was) before)
             | inr from ↦
                 let is : target ≡ s = omega (arith, up_to, from) in
                 subst (λ (k : ℕ). m.held k ≡ Some u → n.held k ≡ Some v → Steps told u v (d (key_of m k)) (e (key_of m k))) is (one_cut target size cut u v) was now
@@ -206,7 +203,7 @@ module _ {F : Type 0} (gives : F → Setting) {told : Type 0} (m n : Sections F 
     prune_glob ceiling = glob_steps gives m n old new d e glob over place none
         (λ s u v was now. elim (cases_lt s least) [
           | inl below ↦ absurd (cc (now, (removed s below).held))
-          | inr from ↦ step_same u v (d (key_of m s)) (e (key_of m s)) (some_same v u (sym now ∙ (kept s from).held ∙ was)) (λ t. kept_blob t s (some_held (m.held s) u was) from)
+          | inr from ↦ step_same u v (d (key_of m s)) (e (key_of m s)) (some_same v u (sym now ∙ (kept s from).held ∙ was)) (λ t. kept_blob t s (some_there (m.held s) u was) from)
         ])
         (λ t s some. elim (cases_lt s least) [
           | inl below ↦ absurd (cc (some, ap is_some (removed s below).unopened))

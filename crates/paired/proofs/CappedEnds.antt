@@ -9,7 +9,6 @@ use Rattle.section_manager.specs.declared.buffer.SectionBuffer as buffer
 use Rattle.section_manager.specs.declared.unsealed.WriteFactory.{WriteFactory}
 use Rattle.section_manager.specs.Sections.{Sections}
 use Rattle.section_manager.specs.Setting.{Setting}
-use Rattle.section_manager.proofs.WalkLemmas.{some_same}
 use Rattle.segments.specs.FixedLists.{Lists}
 use Rattle.segments.specs.FixedLists as fixed
 use Rattle.value_codec.specs.declared.key.Key8.{Key8}
@@ -21,6 +20,7 @@ use Rattle.paired.specs.Records.{records, front, entry_of}
 use Rattle.paired.proofs.Ends.{Bounds, Ends}
 use Rattle.paired.proofs.opening.Ends.{front_order, up_to_order, cut_front, cut_up_to}
 use Rattle.paired.proofs.reconcile.Resting.{Resting}
+use Rattle.blob_device.proofs.general.Options.{some_same}
 
 -- n at that section alone
 abbrev pub only_at : ℕ → ℕ → ℕ → Option ℕ

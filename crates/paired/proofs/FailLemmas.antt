@@ -1,6 +1,5 @@
 -- What a call answers where a layer below it failed.
 use Rattle.std.proofs.Common.{◌≡◌, ◌⊎◌, inl, inr, ℕ, Result, Ok, Err, OnErr, ap, ◌∙◌}
-use Rattle.blob_device.proofs.Results.{err_with}
 use Rattle.blob_device.specs.Counts.{Rose}
 use Rattle.blob_device.specs.declared.runtime.RError.{RError}
 use Rattle.blob_device.specs.declared.runtime.RError.TheVariants.{Mem, Fault}
@@ -11,6 +10,7 @@ use Rattle.section_manager.specs.declared.journal.Error.TheVariants as journal
 use Rattle.section_manager.specs.declared.journal.Error.TheVariants.{AlreadyPrunedToSection, ChecksumMismatch, Codec, Runtime}
 use Rattle.section_manager.specs.Raised.{raised, raised_codec}
 use Rattle.section_manager.specs.Refusing.{HasDamage, HasFailed, IsPruned}
+use Rattle.blob_device.proofs.general.Results.{err_with}
 
 -- there was no memory, or the device failed
 pub raised_failed : {T : Type 0} (r : Result T Error) (e : RError) (a b : ℕ) → r ≡ Err (raised e) → (e ≡ Mem) ⊎ ((e ≡ Fault) × Rose a b) → HasFailed r a b

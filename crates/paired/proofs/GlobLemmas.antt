@@ -6,7 +6,6 @@ use Rattle.std.proofs.lemmas.List.{ext_get_or, get_or-take, length-take, length-
 use Rattle.std.proofs.lemmas.List.Elements.{All-from_recursion, All-contains}
 use Rattle.blob_device.specs.Disk.{Key, Blob, Disk, past, settled_at}
 use Rattle.blob_device.specs.Opened.{Opened, OpenedList}
-use Rattle.blob_device.proofs.Places.{written_out}
 use Rattle.blob_device.proofs.Puts.{same_or_other}
 use Rattle.sealed_pages.specs.declared.write_blob.WriteBlob.{WriteBlob}
 use Rattle.sealed_pages.specs.Cutting.{IsAtRest}
@@ -23,9 +22,10 @@ use Rattle.section_manager.specs.unsealed.Laws.{all_weaker, counted, settled_wit
 use Rattle.section_manager.proofs.sections.KeyLemmas.{key_injective, keys_differ}
 use Rattle.section_manager.proofs.sections.OverLemmas.{same_key}
 use Rattle.section_manager.proofs.buffers.UnsealedCalls.{front_itself, whole_at_rest}
-use Rattle.section_manager.proofs.WalkLemmas.{none_or_value}
 use Rattle.paired.specs.glob.Lasting.{Outlasts}
 use Rattle.paired.specs.glob.Sections.{bytes_held, size_held, section_bytes, section_size, HadFronts, HasSettled, TakesMore, IsGlob}
+use Rattle.blob_device.specs.Places.{written_out}
+use Rattle.blob_device.proofs.general.Options.{none_or_value}
 
 -- what sections are kept in
 abbrev pub buffers : buffer.Ghosts WriteBlob

@@ -12,7 +12,8 @@ use Rattle.paired.specs.Records.{Entry, records, entries_of, is_sound, front, en
 use Rattle.paired.specs.Places.{Follow, end_of}
 use Rattle.paired.specs.Crashes.{IsPrefix, WasThere}
 use Rattle.paired.proofs.FrameLemmas.{length-bytes_at}
-use Rattle.paired.proofs.RecordLemmas.{bytes_at-take, records-front, records-enough, all_take, all_with, all_by, map-same, front-take, front-enough, front-all}
+use Rattle.paired.proofs.RecordLemmas.{bytes_at-take, records-front, records-enough, map-same, front-take, front-enough, front-all}
+use Rattle.blob_device.proofs.general.Lists.{all_by, all_take, all_with}
 
 -- bytes in a front stand at the same place in what it is a front of
 pub front_bytes : (kept c : List ℕ) (at n : ℕ) → IsFront kept c → at + n ≤ length kept → bytes_at kept at n ≡ bytes_at c at n

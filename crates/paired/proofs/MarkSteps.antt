@@ -10,7 +10,6 @@ use Rattle.section_manager.specs.declared.buffer.SectionBuffer as buffer
 use Rattle.section_manager.specs.declared.unsealed.WriteFactory.{WriteFactory}
 use Rattle.section_manager.specs.Sections.{Sections, section_key, IsHeld}
 use Rattle.section_manager.specs.Setting.{Setting}
-use Rattle.section_manager.proofs.WalkLemmas.{none_or_value}
 use Rattle.value_codec.specs.declared.key.Key8.{Key8}
 use Rattle.meta_store.specs.declared.error.Side.TheVariants.{Left, Right}
 use Rattle.meta_store.specs.Blobs.{blob_of, bytes_of}
@@ -27,6 +26,7 @@ use Rattle.paired.proofs.opening.Phases.{IsPhase, IsBack, not_index, not_values,
 use Rattle.paired.proofs.reconcile.Phases.{bare_of, index_left, values_left, markers_one}
 use Rattle.paired.proofs.reconcile.Resting.{Known, known_no_chance, index_rest, rest_left, rest_there, reads_there}
 use Rattle.paired.proofs.Steps.{Step}
+use Rattle.blob_device.proofs.general.Options.{none_or_value}
 
 -- The image has the bytes of each section as the disk reads, and the blob of each that is held.
 pub record HasSections {F B : Type 0} (l : Layout) (i : Sections F B) (old : Image) (d : Disk) : Type 0 where

@@ -17,7 +17,6 @@ use Rattle.section_manager.specs.declared.journal.Error.TheVariants as journal
 use Rattle.section_manager.specs.Refusing.{HasFailed, IsForeign}
 use Rattle.section_manager.specs.Sections.{Sections, section_key, IsOver}
 use Rattle.section_manager.specs.Setting.{Setting}
-use Rattle.section_manager.proofs.WalkLemmas.{none_or_value, value_of}
 use Rattle.segments.specs.declared.fixed.preflighting.Target.{Target}
 use Rattle.segments.specs.FixedCheckpoint.{Finishes, Gives}
 use Rattle.segments.specs.FixedLists.{Lists}
@@ -25,6 +24,7 @@ use Rattle.segments.specs.FixedFloors.{IsRefused}
 use Rattle.paired.specs.Kept.{Layout}
 use Rattle.paired.specs.OpeningRefusing.{IsLost, IsUnreadable}
 use Rattle.paired.proofs.opening.StartCauses.{PartsRefuse}
+use Rattle.blob_device.proofs.general.Options.{none_or_value, value_of}
 
 -- no section of the one partition has the blob of one of the other
 pub keys_apart : (i v : List ℕ) → i ≢ v → (s t : ℕ) → section_key v s ≢ section_key i t

@@ -11,13 +11,12 @@ use Rattle.section_manager.specs.Setting.{Setting}
 use Rattle.section_manager.specs.Sections.{Sections, key_of}
 use Rattle.section_manager.specs.unsealed.Buffer as unsealed
 use Rattle.section_manager.specs.unsealed.Buffer.{content_of, count_of}
-use Rattle.section_manager.proofs.WalkLemmas.{none_or_value}
 use Rattle.paired.specs.Frames.{bytes_at, with_number, frame, HasFrame, IsSealed, IsBroken, Differ}
 use Rattle.paired.specs.glob.Reading.{IsInside, IsMismatch}
 use Rattle.paired.specs.glob.Sections.{section_bytes, size_held, IsGlob}
-use Rattle.paired.proofs.CallLemmas.{some_held}
 use Rattle.paired.proofs.FrameLemmas as frames
 use Rattle.paired.proofs.GlobLemmas.{buffers, held_bytes, no_bytes, section_counted}
+use Rattle.blob_device.proofs.general.Options.{none_or_value, some_there}
 
 module _ (seal : List ℕ → ℕ) where
   -- a number behind some bytes, which is not their seal
@@ -60,7 +59,7 @@ module _ {F : Type 0} (gives : F → Setting) {told : Type 0} (m : Sections F Wr
   pub none_below : (s : ℕ) → s < m.floor → m.held s ≡ None
   none_below s below = elim (none_or_value (m.held s)) [
     | inl none ↦ none
-    | inr some ↦ absurd (omega (arith, below, glob.over.opened_list.from_floor s (inl (some_held (m.held s) some.0 some.1))))
+    | inr some ↦ absurd (omega (arith, below, glob.over.opened_list.from_floor s (inl (some_there (m.held s) some.0 some.1))))
   ]
 
   module _ (s : ℕ) (u : WriteBlob) (held : m.held s ≡ Some u) where

@@ -3,7 +3,7 @@ use Rattle.std.specs.Prelude.{◌≡◌, ◌≢◌, ◌⊎◌, ◌↔◌, ℕ, �
 use Rattle.std.proofs.Common.{Err, inl, inr, refl, sym, ◌∙◌, ap, subst, arith}
 use Rattle.std.proofs.Math.Nat.{mul-mod_left}
 use Rattle.std.specs.List.{Contains}
-use Rattle.std.specs.Option.{unwrap_or, is_some}
+use Rattle.std.specs.Option.{unwrap_or}
 use Rattle.std.proofs.lemmas.Bool.{cases_lt, cases_eq}
 use Rattle.std.proofs.lemmas.List.{take_all}
 use Rattle.blob_device.specs.declared.runtime.RError.TheVariants.{Fault, InvalidChecksum}
@@ -34,10 +34,10 @@ use Rattle.section_manager.specs.Setting.{Setting}
 use Rattle.section_manager.proofs.sections.CutLemmas.{CutWalked, CutTried, CutCall, CutMade, cut_same, cut_moves, cut_at, cut_tried_start, cut_walked_start, cut_tried_more, cut_walked_more, cutting_of}
 use Rattle.section_manager.proofs.sections.OverLemmas.{same_key}
 use Rattle.section_manager.proofs.sections.SyncLemmas.{BufferLaws}
-use Rattle.section_manager.proofs.WalkLemmas.{some_same, value_of, none_or_value}
 use Rattle.segments.specs.FixedLists.{Lists, IsJournal, IsProven, section_bytes, section_size}
 use Rattle.segments.proofs.FixedWriteLemmas.{ArePages, are_pages, leaves_sealed, size_here, bytes_here}
 use Rattle.paired.specs.Reconciling.{CutTo, Shortening}
+use Rattle.blob_device.proofs.general.Options.{none_or_value, some_of, some_same, value_of}
 
 -- the laws of page blobs under this seal, and what their ghosts say
 pub record PageLaws {S : Type 0} {gs : _} (g : buffer.Ghosts (PageBlob S gs)) (seal : List ℕ → ℕ) : Type 0 where
@@ -127,12 +127,6 @@ pub record RecordsCut {F S Dev : Type 0} {gs : _} (j k : Lists F (PageBlob S gs)
 pub has_more : {T : Type 0} (o : Option T) (P Q : T → Type 0) → ((u : T) → P u → Q u) → IsSomeAnd o P → IsSomeAnd o Q
 has_more None P Q more has = has
 has_more (Some u) P Q more has = more u has
-
-some_of : {T : Type 0} (o : Option T) → IsSome o → (v : T) × (o ≡ Some v)
-some_of o some = elim (none_or_value o) [
-  | inl none ↦ absurd (cc (some, ap is_some none))
-  | inr is ↦ is
-]
 
 none_end : (size : ℕ) (o : Option ℕ) → o ≡ None → IsSome (CutTo size o) → ⊥
 none_end size o is some = absurd (cc (subst (λ (x : Option ℕ). IsSome (CutTo size x)) is some))

@@ -3,12 +3,13 @@ use Rattle.std.proofs.Common.{◌≡◌, ℕ, zero, suc, ◌+◌, ◌-◌, ◌*�
 use Rattle.std.specs.List.{AllByRecursion}
 use Rattle.std.proofs.lemmas.Bool.{le-ltb, or_right}
 use Rattle.std.proofs.lemmas.List.{take-take, drop-take}
-use Rattle.std.proofs.lemmas.Nat.{le-div, mul-le}
+use Rattle.std.proofs.lemmas.Nat.{le-div}
 use Rattle.std.proofs.Math.Nat.{div-mul-le_self}
 use Rattle.segments.specs.FixedItems.{item_count, item_at}
 use Rattle.paired.specs.Frames.{bytes_at}
 use Rattle.paired.specs.Places.{last_end}
 use Rattle.paired.specs.Records.{each_below, records, front}
+use Rattle.blob_device.proofs.general.Numbers.{item_ends}
 
 pub length-each_below : {X : Type 0} (n : ℕ) (f : ℕ → X) → length (each_below n f) ≡ n
 length-each_below zero f = refl
@@ -31,12 +32,6 @@ bytes_at-take at n m bytes le =
     let split : m ≡ at + (m - at) = omega (arith, le) in
     ap (λ (x : ℕ). take n (drop at (take x bytes))) split ∙ ap (take n) (drop-take at (m - at) bytes) ∙ take-take n (m - at) (drop at bytes) (omega (arith, le))
 
--- the place behind an item among n whole ones
-pub item_ends : (size n p : ℕ) → p < n / size → p * size + size ≤ n
-item_ends size n p lt =
-    let next : (p + 1) * size ≡ p * size + size = omega arith in
-    omega (arith, next, mul-le (p + 1) size (n / size) size (omega (arith, lt)) (omega arith), div-mul-le_self n size)
-
 pub length-records : (size : ℕ) (bytes : List ℕ) → length (records size bytes) ≡ length bytes / size
 length-records size bytes = length-each_below (item_count size bytes) (item_at size bytes)
 
@@ -56,20 +51,6 @@ records-front size bytes kept pos is le =
 -- so many records are whole in the bytes
 pub records-enough : (size n : ℕ) (bytes : List ℕ) → 1 ≤ size → n * size ≤ length bytes → n ≤ length (records size bytes)
 records-enough size n bytes pos le = omega (arith, length-records size bytes, le-div n (length bytes) size (omega (arith, pos)) le)
-
--- facts of each element
-pub all_take : {X : Type 0} (P : X → Type 0) (n : ℕ) (xs : List X) → AllByRecursion P xs → AllByRecursion P (take n xs)
-all_take P zero xs all = tt
-all_take P (suc n) [] all = tt
-all_take P (suc n) (x ∷ xs) all = (all.0, all_take P n xs all.1)
-
-pub all_with : {X : Type 0} (P Q R : X → Type 0) → ((x : X) → P x → Q x → R x) → (xs : List X) → AllByRecursion P xs → AllByRecursion Q xs → AllByRecursion R xs
-all_with P Q R make [] ps qs = tt
-all_with P Q R make (x ∷ xs) ps qs = (make x ps.0 qs.0, all_with P Q R make xs ps.1 qs.1)
-
-pub all_by : {X : Type 0} (P Q : X → Type 0) → ((x : X) → P x → Q x) → (xs : List X) → AllByRecursion P xs → AllByRecursion Q xs
-all_by P Q make [] ps = tt
-all_by P Q make (x ∷ xs) ps = (make x ps.0, all_by P Q make xs ps.1)
 
 pub map-same : {X Y : Type 0} (f g : X → Y) (xs : List X) → AllByRecursion (λ x. f x ≡ g x) xs → map f xs ≡ map g xs
 map-same f g [] all = refl

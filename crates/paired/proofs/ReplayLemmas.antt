@@ -10,7 +10,6 @@ use Rattle.std.proofs.Math.Numerals.{add-one}
 use Rattle.blob_device.specs.Disk.{Disk}
 use Rattle.sealed_pages.specs.declared.page_blob.PageBlob.{PageBlob}
 use Rattle.section_manager.specs.Sections.{key_of, IsHeld}
-use Rattle.section_manager.proofs.WalkLemmas.{none_or_value, some_same}
 use Rattle.segments.specs.FixedItems.{item_count, item_at}
 use Rattle.segments.specs.FixedReplay.{Place, Walk, Gives, Stops, IsLeft, StandsBefore, kept_of, kept_bytes}
 use Rattle.meta_store.specs.Store.{Store}
@@ -22,6 +21,7 @@ use Rattle.paired.specs.Records.{each_below, records, front, is_sound}
 use Rattle.paired.specs.Replaying.{Run, marker, HasFailed, HasGiven, is_sound_over, records_over, records_given, IsDue, IsUnbroken, IsGood, IsEnd, IsChecked, GivesRecord, LosesRecords, Sorts}
 use Rattle.paired.proofs.opening.Ends.{front_stops}
 use Rattle.paired.proofs.RecordLemmas.{last_end_at, records-take, length-records}
+use Rattle.blob_device.proofs.general.Options.{none_or_value, some_same}
 
 below : (m n : ℕ) → m < n → nat_lt m n ≡ true
 below m n lt = grind (arith, nat_tests)

@@ -21,7 +21,6 @@ use Rattle.section_manager.specs.Sealed.{is_unsettled}
 use Rattle.section_manager.specs.SealedLaws.{all_settled}
 use Rattle.section_manager.specs.Sections.{Sections, section_key, key_of}
 use Rattle.section_manager.specs.Setting.{Setting}
-use Rattle.section_manager.proofs.WalkLemmas.{none_or_value}
 use Rattle.segments.specs.FixedReplay.{Walk, Replaying}
 use Rattle.segments.proofs.FixedWriteLemmas.{ArePages}
 use Rattle.paired.specs.Crashes.{IsIndexOf, NoChanceSeal}
@@ -37,6 +36,7 @@ use Rattle.paired.specs.Pair.{AreApart}
 use Rattle.paired.proofs.pair.Synced.{Here}
 use Rattle.paired.proofs.reconcile.Resting.{Rests, index_number, index_key, paged, index_rest, values_rest, values_absent}
 use Rattle.paired.proofs.ReplayLemmas.{records_of_items}
+use Rattle.blob_device.proofs.general.Options.{none_or_value}
 
 -- ---- a blob at rest
 rest_settled : (b : Blob) → IsAtRest b → IsSettled b

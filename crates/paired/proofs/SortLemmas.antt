@@ -9,7 +9,6 @@ use Rattle.sealed_pages.specs.declared.page_blob.PageBlob.{PageBlob}
 use Rattle.sealed_pages.specs.declared.write_blob.WriteBlob.{WriteBlob}
 use Rattle.section_manager.specs.declared.unsealed.WriteFactory.{WriteFactory}
 use Rattle.section_manager.specs.Sections.{Sections, section_key, IsHeld}
-use Rattle.section_manager.proofs.WalkLemmas.{some_same}
 use Rattle.segments.specs.FixedLists.{Lists, IsProven}
 use Rattle.segments.specs.FixedLists as fixed
 use Rattle.meta_store.specs.Store.{Store}
@@ -20,6 +19,7 @@ use Rattle.paired.specs.Pair.{Pair, AreMarkers, AreWhole, HasSettled, IsSoundOn,
 use Rattle.paired.specs.Places.{Follow, end_of}
 use Rattle.paired.specs.Records.{records, is_sound}
 use Rattle.paired.specs.Replaying.{Run, NotesRecord, counted_end, pair_of, marker, Sorts}
+use Rattle.blob_device.proofs.general.Options.{some_same}
 
 -- ---- what tests say
 pub ended_not : (o : Option ℕ) (s : ℕ) → false ≡ option_eq nat_eq o (Some s) → o ≢ Some s

@@ -17,16 +17,13 @@ use Rattle.section_manager.specs.Sections.{Sections, key_of, section_key, IsHeld
 use Rattle.section_manager.specs.Lasting.{Syncing, Cutting, Truncating, IsLonger, IsUnsettled}
 use Rattle.section_manager.specs.unsealed.Buffer.{Stands, IsWhole, MayKeep, content_of, count_of, is_unsettled}
 use Rattle.section_manager.specs.unsealed.Laws.{all_settled, rested, found_again}
-use Rattle.section_manager.proofs.WalkLemmas.{has_value, none_or_value}
 use Rattle.paired.specs.glob.Lasting as lasting
 use Rattle.paired.specs.glob.Sections.{section_bytes, HadFronts, HasSettled, IsAllSettled, IsGlob}
 use Rattle.paired.proofs.GlobLemmas.{buffers, idle_takes, idle_behind, idle_whole, rested_fronts, Serves, idle_serves, outlasts_of, held_bytes, has_settled, glob_of, serves_of}
+use Rattle.blob_device.proofs.general.Options.{has_value, none_or_value}
 
 pub of_some : {T : Type 0} (o : Option T) (P : T → Type 0) (v : T) → o ≡ Some v → IsSomeAnd o P → P v
 of_some {T = T} o P v is has = subst (λ (x : Option T). IsSomeAnd x P) is has
-
-held_so : {T : Type 0} (o : Option T) (v : T) → o ≡ Some v → IsSome o
-held_so o v is = subst IsSome (sym is) refl
 
 -- a call made the buffer v of u, over a blob that was x and is y
 abbrev pub Steps : (told : Type 0) (u v : WriteBlob) (x y : Blob) → Type 0

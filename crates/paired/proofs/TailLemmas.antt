@@ -9,9 +9,9 @@ use Rattle.sealed_pages.proofs.unsealed.WritingLemmas.{idle_parts}
 use Rattle.section_manager.specs.declared.unsealed.WriteFactory.{WriteFactory}
 use Rattle.section_manager.specs.Sections.{Sections}
 use Rattle.section_manager.specs.unsealed.Buffer.{is_unsettled}
-use Rattle.section_manager.proofs.WalkLemmas.{none_or_value}
 use Rattle.paired.specs.glob.Sections.{pending_held, pending_size}
 use Rattle.paired.specs.Tails.{IsTailAfter}
+use Rattle.blob_device.proofs.general.Options.{none_or_value}
 
 -- a buffer of which all has settled has an empty run
 settled_run : (u : WriteBlob) → is_unsettled u ≡ false → length u.pending.items ≡ 0

@@ -14,7 +14,6 @@ use Rattle.sealed_pages.specs.declared.page_blob.PageBlob.{PageBlob}
 use Rattle.section_manager.specs.Lasting.{IsGoing}
 use Rattle.section_manager.specs.Sections.{section_key, key_of, IsHeld, IsKnown}
 use Rattle.section_manager.proofs.sections.KeyLemmas.{key_injective}
-use Rattle.section_manager.proofs.WalkLemmas.{none_or_value}
 use Rattle.segments.specs.FixedBounds.{CuttingTail}
 use Rattle.segments.specs.FixedLists.{Lists}
 use Rattle.section_manager.proofs.buffers.NothingSealed.{nothing_sealed}
@@ -35,6 +34,7 @@ use Rattle.paired.proofs.pair.Holding.{leaves_more}
 use Rattle.paired.proofs.reconcile.Phases.{has_markers, same_markers}
 use Rattle.paired.proofs.reconcile.Resting.{MarksRest, none_of, reads_there}
 use Rattle.paired.proofs.Steps.{Step}
+use Rattle.blob_device.proofs.general.Options.{none_or_value}
 
 -- Each blob of later records is as it was, under removal or gone. The section's own is as it was, or each crash leaves of its sealed bytes a prefix
 -- that holds the first p records. No other blob has changed.

@@ -1,10 +1,8 @@
 -- Where the values of sections with records end, and what is left of a glob that is cut there.
-use Rattle.std.specs.Prelude.{◌≡◌, ◌≢◌, ◌⊎◌, ◌↔◌, ℕ, ◌<◌, ◌≤◌, min, ⊤, Bool, true, false, List, [], ◌∷◌, take, Option, None, Some, IsSome, IsSomeAnd, Result, Ok, Err, OnErr}
+use Rattle.std.specs.Prelude.{◌≡◌, ◌≢◌, ◌⊎◌, ◌↔◌, ℕ, ◌<◌, ◌≤◌, min, ⊤, false, List, [], ◌∷◌, take, Option, None, Some, IsSome, IsSomeAnd, Result, Ok, Err, OnErr}
 use Rattle.std.proofs.Common.{inl, inr, refl, sym, ◌∙◌, ap, subst, arith}
-use Rattle.std.specs.BTreeMap.{is_at}
 use Rattle.std.specs.List.{Contains}
 use Rattle.std.specs.Option.{option_map}
-use Rattle.std.specs.Ordering.{nat_cmp}
 use Rattle.std.specs.Result.{IsErrOf}
 use Rattle.std.proofs.lemmas.Bool.{cases_lt, cases_eq}
 use Rattle.std.proofs.lemmas.List.Elements.{Contains-append_right, Contains-append_cases, Contains-push_cases}
@@ -24,8 +22,6 @@ use Rattle.section_manager.specs.Sections.{Sections, key_of, IsHeld, IsKeyOf, Is
 use Rattle.section_manager.specs.Setting.{Setting}
 use Rattle.section_manager.specs.unsealed.Buffer.{Stands, MayKeep, count_of, is_unsettled}
 use Rattle.section_manager.specs.unsealed.Laws.{passes, looser}
-use Rattle.section_manager.proofs.sections.CutLemmas.{same_number}
-use Rattle.section_manager.proofs.WalkLemmas.{some_same, has_value, value_of, none_or_value}
 use Rattle.segments.specs.FixedLists.{Lists, IsJournal, section_bytes}
 use Rattle.paired.specs.glob.Lasting.{Cutting}
 use Rattle.paired.specs.glob.Sections.{IsGlob}
@@ -37,6 +33,7 @@ use Rattle.paired.proofs.FailLemmas.{failed_as}
 use Rattle.paired.proofs.GlobLemmas.{buffers}
 use Rattle.paired.proofs.pair.Stays.{journal_stays}
 use Rattle.paired.proofs.StepLemmas.{crash_keeps}
+use Rattle.blob_device.proofs.general.Options.{has_value, none_or_value, some_same, value_of}
 
 -- ---- the ends that were taken over so far: of the held sections but for those that are left
 pub record EndsFound {F B : Type 0} (m : Sections F B) (IsEnd : ℕ → ℕ → Type 0) (ends : ℕ → Option ℕ) (left : List ℕ) : Type 0 where
@@ -221,14 +218,6 @@ module _ {F G S Dev : Type 0} {gs : _} (takes : G → Setting) (place : List ℕ
     pub journal_cut : {g : buffer.Ghosts (PageBlob S gs)} {gives : F → Setting} (seal : List ℕ → ℕ) (c : Dev) (P : ℕ → Type 0) → ((q : Key) → (IsKeyOf m P q → ⊥) → opened c q ≡ opened a q) → (told → (q : Key) → (IsKeyOf m P q → ⊥) → disk (time c) q ≡ disk (time a) q)
         → IsJournal g gives seal size told j (opened a) (disk (time a)) → IsJournal g gives seal size told j (opened c) (disk (time c))
     journal_cut seal c P entries blobs = journal_stays seal size j (opened a) (opened c) (disk (time a)) (disk (time c)) (λ s small. entries (key_of j.sections s) (no_value P s)) (λ t s small. blobs t (key_of j.sections s) (no_value P s))
-
--- another key of a map
-other_at : (x s : ℕ) (b : Bool) → is_at (nat_cmp x) s ≡ b → s ≢ x → b ≡ false
-other_at x s false is other = refl
-other_at x s true is other = absurd (other (sym (same_number x s is)))
-
-pub not_at : (x s : ℕ) → s ≢ x → is_at (nat_cmp x) s ≡ false
-not_at x s other = other_at x s (is_at (nat_cmp x) s) refl other
 
 -- ---- an error of the cut of the values: that of a device or of memory
 pub pruned_none : {T : Type 0} (r : Result T Error) (ends : ℕ → Option ℕ) (floor : ℕ) → floor ≡ 0 → (IsPruned r floor → (s : ℕ) × IsSome (ends s) × (s < floor)) → IsPruned r floor → ⊥

@@ -15,9 +15,11 @@ use Rattle.section_manager.specs.Sections.{Sections, key_of, IsHeld, IsSame, Sam
 use Rattle.section_manager.specs.Setting.{Setting}
 use Rattle.section_manager.proofs.sections.KeyLemmas.{keys_differ}
 use Rattle.section_manager.proofs.sections.OverLemmas.{same_key}
-use Rattle.section_manager.proofs.WalkLemmas.{none_or_value, contains_or_not, first_or_later, later_in, first_in, same_bounds}
+use Rattle.section_manager.proofs.WalkLemmas.{same_bounds}
 use Rattle.paired.specs.glob.Sections.{IsGlob, section_bytes}
 use Rattle.paired.proofs.GlobLemmas.{buffers}
+use Rattle.blob_device.proofs.general.Lists.{contains_or_not, first_in, first_or_later, later_in}
+use Rattle.blob_device.proofs.general.Options.{none_or_value}
 
 -- no blob changes but those of named sections that are held
 abbrev pub OnlyHeld : {F : Type 0} → Sections F WriteBlob → (ℕ → Type 0) → Disk → Disk → Type 0

@@ -6,8 +6,8 @@ use Rattle.std.specs.List.Sorted.{IsStrictlySortedBy}
 use Rattle.std.specs.Ordering.{nat_cmp}
 use Rattle.std.proofs.lemmas.List.Elements.{All-contains, All-from_recursion, Contains-append_left, Contains-push, Contains-push_cases}
 use Rattle.std.proofs.lemmas.Map.Keys.{sorted_head}
-use Rattle.ordinal_store.proofs.ranges.Compared.{lt_from_less}
 use Rattle.record_tables.specs.Rows.{ArePositions, FindsFirst, Row}
+use Rattle.blob_device.proofs.general.Numbers.{lt_from_less}
 
 -- ---- an element at a place of a list with one more
 

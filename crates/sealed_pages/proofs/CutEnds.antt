@@ -30,9 +30,9 @@ use Rattle.sealed_pages.proofs.Fronts.{front_look, front_then}
 use Rattle.sealed_pages.proofs.looking.Looking.{unchanged_now}
 use Rattle.sealed_pages.proofs.slots.PageCalls.{alone_start}
 use Rattle.sealed_pages.proofs.cutting.Shortening.{shorter_at, shorter_within, cut_covers}
-use Rattle.sealed_pages.proofs.slots.SlotLemmas.{times_next}
 use Rattle.sealed_pages.proofs.cutting.Truncating.{as_of, at_ready, holds_cut, stands_none, resized_data, cut_bytes, cut_backed, raised_cause, rose_since, look_sealing, look_then, look_alone, within_ready, within_stands, head_stands, page_cut_data}
 use Rattle.sealed_pages.proofs.cutting.TruncateEnds.{no_page}
+use Rattle.blob_device.proofs.general.Numbers.{times_next}
 
 module _ {D : Type 0} (dev : device.Ghosts D) (seal : List ℕ → ℕ) (u : Buffer) (begun : u.from < u.page_size) {B : Type 0} (see : B → Buffer) (page : ℕ) where
   pos : 1 ≤ u.page_size

@@ -7,8 +7,6 @@ use Rattle.blob_device.specs.Change.{Change, Make, Write, Resize, Settle, Remove
 use Rattle.blob_device.specs.Disk.{Key, Blob, Disk}
 use Rattle.blob_device.specs.Guards.{Avoids}
 use Rattle.blob_device.specs.Timeline.{Timeline, disk, Passes, Always, OnlyAt}
-use Rattle.blob_device.proofs.Bytes.{length-written, length-resized}
-use Rattle.blob_device.proofs.Places.{written_out, resized_below}
 use Rattle.blob_device.proofs.GuardsLemmas.{guards_during, guards_done, guards_failed}
 use Rattle.blob_device.proofs.Moments.{always_now, always_weaker, only_start, only_on, ok_blob, err_has}
 use Rattle.sealed_pages.specs.Reading.{Unchanged}
@@ -16,6 +14,8 @@ use Rattle.sealed_pages.specs.Unrecovered.{HasFront, FrontOf, SparesFront}
 use Rattle.sealed_pages.specs.View.{View, view, page_at}
 use Rattle.sealed_pages.proofs.slots.PageCalls.{only_then, only_weaker}
 use Rattle.sealed_pages.proofs.adopted.Repairing.{page_order}
+use Rattle.blob_device.specs.Lengths.{length-resized, length-written}
+use Rattle.blob_device.specs.Places.{resized_below, written_out}
 
 -- what each of a change's outcomes keeps, a call keeps at each moment
 pub kept_on : {T : Type 0} (Q : Blob → Type 0) (key : Key) (from : Disk) (a b c : Timeline) (change : Change) (result : Result T DevError) → Always a b (OnlyAt key from Q) → Passes key change result b c

@@ -9,7 +9,6 @@ use Rattle.blob_device.specs.Counts.{Rose}
 use Rattle.blob_device.specs.declared.error.DevError.{DevError}
 use Rattle.blob_device.specs.declared.runtime.RError.{RError}
 use Rattle.blob_device.specs.declared.runtime.RError.TheVariants.{BlobInsufficientLength, Fault, InvalidChecksum, Mem, OffsetOverflow}
-use Rattle.blob_device.proofs.Results.{on_err, on_ok, ok_with}
 use Rattle.sealed_pages.specs.BlobReads.{LearnsSize, ReadsPages, ReadsOpened, ReadsLast}
 use Rattle.sealed_pages.specs.Calls.{FailsBelow}
 use Rattle.sealed_pages.specs.PageReads.{ReadsRange, ReadsTail}
@@ -24,6 +23,7 @@ use Rattle.sealed_pages.proofs.looking.ReadLemmas.{read_data, same_error}
 use Rattle.sealed_pages.proofs.adopted.Reopen.{settles_then, stays_then}
 use Rattle.sealed_pages.proofs.cutting.TruncateEnds.{no_page}
 use Rattle.sealed_pages.proofs.cutting.Truncating.{no_value}
+use Rattle.blob_device.proofs.general.Results.{ok_with, on_err, on_ok}
 
 -- an error, of this kind of result
 abbrev pub failure : (T : Type 0) → RError → Result T RError

@@ -15,9 +15,10 @@ use Rattle.sealed_pages.specs.View.{view, page_at}
 use Rattle.sealed_pages.proofs.adopted.Adopt.{best_covers, best_length, length-data_from, own_data}
 use Rattle.sealed_pages.proofs.adopted.Repairing.{adopted_below, size_bounds}
 use Rattle.sealed_pages.proofs.slots.SealedBytes.{SoundTo, sound_to, rest_is, length-step, page_length-le, page_length-slot, slot_inside, covers_length, sound_prefix, sealed_leaves}
-use Rattle.sealed_pages.proofs.slots.SlotLemmas.{times_next, times_more, slot_length-le}
+use Rattle.sealed_pages.proofs.slots.SlotLemmas.{slot_length-le}
 use Rattle.sealed_pages.proofs.slots.SlotSteps.{covers_inside}
 use Rattle.sealed_pages.proofs.slots.Steps.{below_sound}
+use Rattle.blob_device.proofs.general.Numbers.{times_more, times_next}
 
 module _ (seal : List ℕ → ℕ) (P : ℕ) where
   -- a page at which the sealed prefix arrives is in it as far as it is sealed

@@ -1,13 +1,13 @@
 -- A buffer over its calls: a flush in two steps, bytes added, and a sync.
 use Rattle.std.proofs.Common.{◌≡◌, ◌≢◌, inl, inr, ℕ, Ok, ◌+◌, ◌*◌, ◌<◌, ◌≤◌, ◌||◌, not, eqb, Result, Bool, true, false, List, ◌++◌, length, sym, ◌∙◌, ap, subst, arith, append_assoc}
-use Rattle.std.proofs.lemmas.Bool.{eq-eqb}
+use Rattle.std.proofs.lemmas.Bool.{cases_Bool, eq-eqb}
 use Rattle.blob_device.specs.declared.error.DevError.{DevError}
 use Rattle.blob_device.specs.Timeline.{Timeline, disk, Passes}
 use Rattle.blob_device.specs.Change.{Settle}
 use Rattle.blob_device.specs.Disk.{Key}
 use Rattle.sealed_pages.proofs.adopted.Adopting.{end_page, adopted_kept}
 use Rattle.sealed_pages.proofs.adopted.Keeping.{settle_any}
-use Rattle.sealed_pages.proofs.memory.Holding.{bytes_is, bytes_length, bool_or, data_less}
+use Rattle.sealed_pages.proofs.memory.Holding.{bytes_is, bytes_length, data_less}
 use Rattle.sealed_pages.proofs.slots.PageCalls.{only_then, synced_any, synced_ok, data_more}
 use Rattle.sealed_pages.specs.Buffer.{Buffer, key_of, size_of, flushed_of, bytes_of, Holds, HasFlushed}
 use Rattle.sealed_pages.specs.ChanceSeal.{Leaves, Sealing}
@@ -40,7 +40,7 @@ flushed_backed r P n all content pos page size same at long within =
 
 pub holds_settle : (seal : List ℕ → ℕ) (r : Buffer) (all : List ℕ) (key : Key) (t1 t2 : Timeline) (result : Result (Unit {0}) DevError) → r.from < r.page_size → Holds seal r all (disk t1 key) → Passes key Settle result t1 t2 → Sealing seal r.page_size all r.settled key t1 t2
 holds_settle seal r all key t1 t2 result begun holds passes = let pos : 1 ≤ r.page_size = omega (arith, begun) in
-    elim (bool_or (r.behind || r.torn)) [
+    elim (cases_Bool (r.behind || r.torn)) [
       | inl left ↦ (let a = holds.state.adopted left in
           subst (λ (n : ℕ). Sealing seal r.page_size all n key t1 t2) (sym a.1)
           (settle_any seal r.page_size all (flushed_of r) a.0.σ pos (disk t1 key).content key t1 (adopted_kept seal r.page_size pos all r.first r.from r.newest r.behind r.torn begun (disk t1 key) a.0) passes))
@@ -53,7 +53,7 @@ needs x y r is so e = cc (is, so, eq-eqb x y e)
 -- a sync settles all that is flushed
 pub holds_synced : (seal : List ℕ → ℕ) (r : Buffer) (all : List ℕ) (key : Key) (t1 t2 : Timeline) (v : Unit {0}) (end : ℕ) (slot : Bool) → r.from < r.page_size → r.settled ≢ flushed_of r → end ≡ flushed_of r
     → (0 < r.from → slot ≡ last_slot r.page_size end r.settled r.newest r.first) → Holds seal r all (disk t1 key) → Passes {T = Unit {0}} key Settle (Ok v) t1 t2 → Holds seal (record r { settled = end; newest = slot }) all (disk t2 key)
-holds_synced seal r all key t1 t2 v end slot begun unsettled is pick holds passes = elim (bool_or (r.behind || r.torn)) [
+holds_synced seal r all key t1 t2 v end slot begun unsettled is pick holds passes = elim (cases_Bool (r.behind || r.torn)) [
   | inl left ↦ absurd (unsettled (holds.state.adopted left).1)
   | inr clean ↦ record {
     state = record {

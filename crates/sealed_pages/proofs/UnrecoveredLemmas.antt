@@ -35,8 +35,9 @@ use Rattle.sealed_pages.proofs.Reaching.{prefix_sound, prefix_size, own_prefix}
 use Rattle.sealed_pages.proofs.memory.Holding.{holds_data}
 use Rattle.sealed_pages.proofs.adopted.Repairing.{page_order}
 use Rattle.sealed_pages.proofs.slots.SealedBytes.{rest, sealed_step, rest_is, page_length-le, covers_length}
-use Rattle.sealed_pages.proofs.slots.SlotLemmas.{times_next, times_more, page_next, bytes_at-same, slot_same, slot_stands}
+use Rattle.sealed_pages.proofs.slots.SlotLemmas.{page_next, bytes_at-same, slot_same, slot_stands}
 use Rattle.sealed_pages.proofs.slots.Steps.{slot_low, slot_high}
+use Rattle.blob_device.proofs.general.Numbers.{times_more, times_next}
 
 module _ (seal : List ℕ → ℕ) (P : ℕ) where
   -- two contents with the same bytes up to the end of a page

@@ -3,9 +3,9 @@ use Rattle.std.proofs.Common.{◌≡◌, inl, inr, ℕ, ◌+◌, ◌-◌, ◌<�
 use Rattle.std.proofs.lemmas.Bool.{cases_lt}
 use Rattle.std.proofs.lemmas.List.{ext_get_or, get_or-take, get_or-drop}
 use Rattle.blob_device.specs.Change.{written, resized}
-use Rattle.blob_device.proofs.Bytes.{length-written, length-resized}
-use Rattle.blob_device.proofs.Places.{written_out, written_in, resized_below}
 use Rattle.sealed_pages.specs.Filled.{HasBytes}
+use Rattle.blob_device.specs.Lengths.{length-resized, length-written}
+use Rattle.blob_device.specs.Places.{resized_below, written_in, written_out}
 
 -- a place among the bytes that were written
 pub written_inside : (c : List ℕ) (at : ℕ) (bytes : List ℕ) (i : ℕ) → at ≤ i → i < at + length bytes → get_or (written c at bytes) i 0 ≡ get_or bytes (i - at) 0

@@ -1,5 +1,5 @@
 -- How many sections there are.
-use Rattle.std.specs.Prelude.{◌≡◌, ◌⊎◌, ◌↔◌, ℕ, ◌<◌, ◌≤◌, List, length, IsSome}
+use Rattle.std.specs.Prelude.{◌≡◌, ◌↔◌, ℕ, ◌<◌, ◌≤◌, List, length, IsSome}
 use Rattle.std.proofs.Common.{inl, inr, zero, suc, [], ◌∷◌, arith}
 use Rattle.std.specs.BTreeMap as tree
 use Rattle.std.specs.BTreeMap.{BTreeMap}
@@ -10,13 +10,7 @@ use Rattle.std.specs.Ordering.{nat_cmp}
 use Rattle.std.proofs.lemmas.Map.Keys.{sorted_tail, below_from_sorted}
 use Rattle.std.proofs.lemmas.Map.Lookups.{exact_unsigned}
 use Rattle.std.proofs.lemmas.Map.Views.{btree_map_contains_key_iff}
-
-further : (x : ℕ) (xs : List ℕ) (s : ℕ) → Contains xs s → Contains (x ∷ xs) s
-further x xs s has = (suc has.0, omega (arith, has.1), has.2)
-
-first_or_further : (x : ℕ) (xs : List ℕ) (s : ℕ) → Contains (x ∷ xs) s → (x ≡ s) ⊎ Contains xs s
-first_or_further x xs s (zero, lt, is) = inl is
-first_or_further x xs s (suc k, lt, is) = inr (k, omega (arith, lt), is)
+use Rattle.blob_device.proofs.general.Lists.{first_or_later, later_in}
 
 first_below : (x : ℕ) (xs : List ℕ) (s : ℕ) → IsStrictlySortedBy nat_cmp (x ∷ xs) → Contains xs s → x < s
 first_below x xs s sorted has = omega (arith, below_from_sorted (x ∷ xs) 0 (suc has.0) s sorted (omega arith) (omega (arith, has.1)), has.2)
@@ -28,8 +22,8 @@ fewer (x ∷ xs) [] one two has = absurd (let at = has x (zero, omega arith, λ 
 fewer (x ∷ xs) (y ∷ ys) one two has = omega (arith, fewer xs ys (sorted_tail nat_cmp x xs one) (sorted_tail nat_cmp y ys two) rest)
   where
     rest : (s : ℕ) → Contains xs s → Contains ys s
-    rest s is = elim (first_or_further y ys s (has s (further x xs s is))) [
-      | inl first ↦ absurd (elim (first_or_further y ys x (has x (zero, omega arith, λ i. x))) [
+    rest s is = elim (first_or_later y ys s (has s (later_in x xs s is))) [
+      | inl first ↦ absurd (elim (first_or_later y ys x (has x (zero, omega arith, λ i. x))) [
         | inl same ↦ omega (arith, first_below x xs s one is, first, same)
         | inr later ↦ omega (arith, first_below x xs s one is, first, first_below y ys x two later)
       ])

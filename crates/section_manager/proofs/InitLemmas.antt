@@ -12,7 +12,6 @@ use Rattle.blob_device.specs.Opened.{OpenedList}
 use Rattle.blob_device.specs.Timeline.{Timeline, disk, Always, OnlyAt, Each}
 use Rattle.blob_device.proofs.Moments.{always_start, always_then, always_weaker, always_now}
 use Rattle.blob_device.proofs.Puts.{same_or_other}
-use Rattle.blob_device.proofs.Results.{err_with}
 use Rattle.sealed_pages.specs.Reading.{Unchanged}
 use Rattle.section_manager.specs.declared.buffer.SectionBuffer as buffer
 use Rattle.section_manager.specs.declared.journal.Error.{Error}
@@ -25,8 +24,11 @@ use Rattle.section_manager.specs.Lasting.{IsOpening, IsSettling}
 use Rattle.section_manager.specs.Refusing.{HasFailed, IsForeign}
 use Rattle.section_manager.specs.Sections.{Sections, section_key, key_of, IsHeld, IsKnown, IsSame, SameBounds, IsOver}
 use Rattle.section_manager.proofs.sections.KeyLemmas.{keys_differ}
-use Rattle.section_manager.proofs.NumberLemmas.{listed_or_not, has_name, name_size, names_number}
+use Rattle.section_manager.proofs.NumberLemmas.{has_name, name_size, names_number}
 use Rattle.section_manager.proofs.sections.OverLemmas.{same_key}
+use Rattle.blob_device.proofs.general.Lists.{contains_or_not}
+use Rattle.blob_device.proofs.general.Results.{err_with}
+use Rattle.blob_device.proofs.general.Options.{none_or_value}
 
 -- a blob that is there is as before, or settled as it read, while it is opened
 opened_there : (from b : Blob) → IsTrue from.there → IsOpening from b → (b ≡ from) ⊎ (b ≡ settled_at from.content)
@@ -93,10 +95,6 @@ module _ (partition : List ℕ) (ceiling : ℕ) where
   pub settling_after : (a b c : Timeline) → Unchanged a b → Always b c (Each (IsSettling partition ceiling (disk b))) → Always a c (Each (IsSettling partition ceiling (disk a)))
   settling_after a b c same second = always_then a b c (Each (IsSettling partition ceiling (disk a))) (settling_unchanged a b same)
       (subst (λ (d : Disk). Always b c (Each (IsSettling partition ceiling d))) (always_now a b (λ d. d ≡ disk a) same) second)
-
-none_or_some : {B : Type 0} (o : Option B) → (o ≡ None) ⊎ ((u : B) × (o ≡ Some u))
-none_or_some None = inl refl
-none_or_some (Some u) = inr (u, refl)
 
 module _ {F B : Type 0} where
   same_then : (a b c : Sections F B) (s : ℕ) → IsSame a b s → IsSame b c s → IsSame a c s
@@ -195,7 +193,7 @@ module _ {F B : Type 0} (g : buffer.Ghosts B) (gives : F → Setting) (told : Ty
       module _ (n : Sections F B) (opens : Opens s m n new after) (small : s < 2 ^ 64) (turn : get_or numbers i 0 ≡ s) (lt : i < length numbers) where
         holds_still : (q : ℕ) → IsHeld m q → IsHeld n q
         holds_still q held = elim (cases_eq q s) [
-          | inl is ↦ elim (none_or_some (m.held s)) [
+          | inl is ↦ elim (none_or_value (m.held s)) [
             | inl none ↦ absurd (cc (ap m.held is, none, held))
             | inr some ↦ subst (IsHeld n) (sym is) (ap is_some (opens.same some.0 some.1))
           ]
@@ -226,7 +224,7 @@ module _ {F B : Type 0} (g : buffer.Ghosts B) (gives : F → Setting) (told : Ty
 
         bytes_more : told → Touched new after → (q : ℕ) (u : B) → n.held q ≡ Some u → g.bytes u (disk new (key_of start q)).content ≡ g.holds (gives start.factory) (disk first (key_of start q)).content
         bytes_more t touched q u held = elim (cases_eq q s) [
-          | inl is ↦ elim (none_or_some (m.held s)) [
+          | inl is ↦ elim (none_or_value (m.held s)) [
             | inl none ↦ subst (λ (p : ℕ). g.bytes u (disk new (key_of start p)).content ≡ g.holds (gives start.factory) (disk first (key_of start p)).content) (sym is) (
                 subst (λ (k : Key). g.bytes u (disk new k).content ≡ g.holds (gives m.factory) (disk new k).content) own_key (opens.bytes t none u (sym (ap n.held is) ∙ held))
                 ∙ ap (λ (f : F). g.holds (gives f) (disk new (key_of start s)).content) done.bounds.place.factory
@@ -246,7 +244,7 @@ module _ {F B : Type 0} (g : buffer.Ghosts B) (gives : F → Setting) (told : Ty
 
         idle_more : (q : ℕ) (u : B) → n.held q ≡ Some u → g.unsettled u ≡ false
         idle_more q u held = elim (cases_eq q s) [
-          | inl is ↦ elim (none_or_some (m.held s)) [
+          | inl is ↦ elim (none_or_value (m.held s)) [
             | inl none ↦ opens.idle none u (sym (ap n.held is) ∙ held)
             | inr some ↦ done.idle s u (some.1 ∙ sym (opens.same some.0 some.1) ∙ sym (ap n.held is) ∙ held)
           ]
@@ -271,7 +269,7 @@ pub record Found {F B : Type 0} (numbers : List ℕ) (m : Sections F B) : Type 0
   pub others : (s : ℕ) → (Contains numbers s → ⊥) → m.unopened s ≡ None
 
 found_listed : {F B : Type 0} (numbers : List ℕ) (m : Sections F B) (found : Found numbers m) (s : ℕ) → IsKnown m s → Contains numbers s
-found_listed numbers m found s known = elim (listed_or_not numbers s) [
+found_listed numbers m found s known = elim (contains_or_not numbers s) [
   | inl listed ↦ listed
   | inr none ↦ elim known [
     | inl held ↦ absurd (cc (ap is_some (found.fresh s), held))
@@ -318,7 +316,7 @@ module _ {F B : Type 0} (numbers : List ℕ) (m : Sections F B) (found : Found n
 
   module _ (n : Sections F B) (opened : Opened n) where
     wanted_or_not : (s : ℕ) → (Contains numbers s × (s ≤ m.ceiling)) ⊎ (Contains numbers s × (s ≤ m.ceiling) → ⊥)
-    wanted_or_not s = elim (listed_or_not numbers s) [
+    wanted_or_not s = elim (contains_or_not numbers s) [
       | inl listed ↦ elim (cases_lt m.ceiling s) [
         | inl above ↦ inr (λ both. omega (arith, above, both.1))
         | inr within ↦ inl (listed, within)
@@ -333,7 +331,7 @@ module _ {F B : Type 0} (numbers : List ℕ) (m : Sections F B) (found : Found n
     ]
 
     pub unopened_above : (s : ℕ) → IsSome (n.unopened s) → Contains numbers s × (m.ceiling < s) × (n.unopened s ≡ Some Section)
-    unopened_above s unopened = elim (listed_or_not numbers s) [
+    unopened_above s unopened = elim (contains_or_not numbers s) [
       | inl listed ↦ elim (cases_lt m.ceiling s) [
         | inl above ↦ (listed, above, (opened.passed s (λ both. omega (arith, above, both.1))).unopened ∙ found.known s listed)
         | inr within ↦ absurd (cc (ap is_some (opened.apart s (opened.held s listed within)), unopened))

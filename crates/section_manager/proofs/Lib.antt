@@ -5,4 +5,3 @@ pub mod CountLemmas
 pub mod WalkLemmas
 pub mod NumberLemmas
 pub mod InitLemmas
-pub mod TurnLemmas

@@ -1,28 +1,16 @@
 -- Numbers in a list, and the names of blobs that spell them.
-use Rattle.std.specs.Prelude.{◌≡◌, ◌⊎◌, ℕ, ◌^◌, ◌<◌, List, [], ◌∷◌, length, map}
+use Rattle.std.specs.Prelude.{◌≡◌, ℕ, ◌^◌, ◌<◌, List, [], length, map}
 use Rattle.std.specs.List.{Contains}
 use Rattle.std.specs.Int.{w64, to_be_bytes}
-use Rattle.std.proofs.Common.{inl, inr, sym, ◌∙◌, ap, subst, get_or, arith, rules}
-use Rattle.std.proofs.lemmas.Bool.{cases_eq}
+use Rattle.std.proofs.Common.{sym, ◌∙◌, ap, subst, get_or, arith, rules}
 use Rattle.std.proofs.lemmas.List.{get_or-map, length-map}
-use Rattle.std.proofs.lemmas.List.Elements.{Contains-get_or, Contains-append_right}
-use Rattle.std.proofs.lemmas.Map.Made.{Contains-tail}
+use Rattle.std.proofs.lemmas.List.Elements.{Contains-get_or}
 use Rattle.std.proofs.lemmas.Grind.{get_or_default_zero}
 use Rattle.blob_device.specs.Disk.{Key}
 use Rattle.section_manager.proofs.sections.KeyLemmas.{key_injective}
 
 pub length-number_name : (n : ℕ) → length (to_be_bytes w64 n) ≡ 8
 length-number_name n = search rules
-
-pub listed_or_not : (numbers : List ℕ) (s : ℕ) → Contains numbers s ⊎ (Contains numbers s → ⊥)
-listed_or_not [] s = inr (λ listed. omega (arith, listed.1))
-listed_or_not (n ∷ ns) s = elim (cases_eq n s) [
-  | inl is ↦ inl (0, omega arith, is)
-  | inr other ↦ elim (listed_or_not ns s) [
-    | inl behind ↦ inl (Contains-append_right (n ∷ []) ns s behind)
-    | inr none ↦ inr (λ listed. none (Contains-tail n ns s other listed))
-  ]
-]
 
 -- what holds at each place holds of each number that is listed
 pub of_listed : (P : ℕ → Type 0) (numbers : List ℕ) (s : ℕ) → ((k : ℕ) → k < length numbers → P (get_or numbers k 0)) → Contains numbers s → P s

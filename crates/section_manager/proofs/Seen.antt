@@ -60,10 +60,6 @@ pub held_has : {T : Type 0} (P : T → Type 0) (o : Option T) (v : T) → o ≡ 
 held_has P None v is has = absurd has
 held_has P (Some w) v is has = (let same : w ≡ v = cc is in subst P same has)
 
-pub if_ok_weaker : {T E : Type 0} {P Q : T → Type 0} (r : Result T E) → IfOk r P → ((v : T) → P v → Q v) → IfOk r Q
-if_ok_weaker (Ok v) has weaker = weaker v has
-if_ok_weaker (Err e) has weaker = tt
-
 -- the same error, of an answer of another type
 pub err_same : {T U : Type 0} {e x : Error} → IsErrOf {T = T} (Err e) x → IsErrOf {T = U} (Err e) x
 err_same {e = e} {x = x} is = (let same : e ≡ x = cc is in cc same)

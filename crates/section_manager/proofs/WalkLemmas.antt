@@ -1,9 +1,7 @@
 -- What calls on one section after another make of a manager, and what they leave of its blobs.
-use Rattle.std.specs.Prelude.{◌≡◌, ◌≢◌, ◌⊎◌, ◌↔◌, ℕ, ◌^◌, ◌<◌, ◌≤◌, List, [], ◌∷◌, Option, None, Some, IsSome, IsSomeAnd}
-use Rattle.std.specs.List.{Contains}
+use Rattle.std.specs.Prelude.{◌≡◌, ◌≢◌, ◌⊎◌, ◌↔◌, ℕ, ◌^◌, ◌<◌, ◌≤◌, Option, None, Some, IsSome, IsSomeAnd}
 use Rattle.std.proofs.Common.{Ok, inl, inr, refl, sym, ◌∙◌, ap, subst, arith}
 use Rattle.std.proofs.lemmas.Bool.{cases_eq}
-use Rattle.std.proofs.lemmas.List.Elements.{Contains-append_left, Contains-append_right, Contains-append_cases, Contains-push, Contains-push_cases}
 use Rattle.blob_device.specs.Disk.{Key, Blob, Disk}
 use Rattle.blob_device.specs.Opened.{OpenedList}
 use Rattle.blob_device.specs.Timeline.{Timeline, disk, Always, OnlyAt, Each}
@@ -17,26 +15,7 @@ use Rattle.section_manager.specs.Setting.{Setting}
 use Rattle.section_manager.specs.Sections.{Sections, key_of, IsSame, SameBounds, IsKeyOf, IsOver}
 use Rattle.section_manager.proofs.sections.KeyLemmas.{key_injective}
 use Rattle.section_manager.proofs.sections.OverLemmas.{same_key}
-
--- the value that there is
-pub record Value {T : Type 0} (o : Option T) (P : T → Type 0) : Type 0 where
-  pub value : T
-  pub is : o ≡ Some value
-  pub has : P value
-
-pub value_of : {T : Type 0} (o : Option T) (P : T → Type 0) → IsSomeAnd o P → Value o P
-value_of None P is = absurd is
-value_of (Some v) P is = record { value = v; is = refl; has = is }
-
-pub has_value : {T : Type 0} (o : Option T) (P : T → Type 0) (v : T) → o ≡ Some v → P v → IsSomeAnd o P
-has_value {T = T} o P v is has = subst (λ (x : Option T). IsSomeAnd x P) (sym is) has
-
-pub some_same : {T : Type 0} (v w : T) → Some v ≡ Some w → v ≡ w
-some_same v w is = cc is
-
-pub none_or_value : {T : Type 0} (o : Option T) → (o ≡ None) ⊎ ((v : T) × (o ≡ Some v))
-none_or_value None = inl refl
-none_or_value (Some v) = inr (v, refl)
+use Rattle.blob_device.proofs.general.Options.{has_value, none_or_value, some_same, value_of}
 
 pub same_bounds : {F B : Type 0} (m n r : Sections F B) → SameBounds m n → SameBounds n r → SameBounds m r
 same_bounds m n r first second = record {
@@ -44,38 +23,6 @@ same_bounds m n r first second = record {
   floor = second.floor ∙ first.floor;
   ceiling = second.ceiling ∙ first.ceiling;
 }
-
-pub contains_or_not : (xs : List ℕ) (x : ℕ) → Contains xs x ⊎ (Contains xs x → ⊥)
-contains_or_not [] x = inr (λ c. absurd (omega (arith, c.1)))
-contains_or_not (y ∷ ys) x = elim (cases_eq y x) [
-  | inl is ↦ inl (Contains-append_left (y ∷ []) ys x (subst (Contains (y ∷ [])) is (Contains-push [] y)))
-  | inr other ↦ elim (contains_or_not ys x) [
-    | inl later ↦ inl (Contains-append_right (y ∷ []) ys x later)
-    | inr never ↦ inr (λ c. elim (Contains-append_cases (y ∷ []) ys x c) [
-      | inl first ↦ elim (Contains-push_cases [] y x first) [
-        | inl none ↦ absurd (omega (arith, none.1))
-        | inr is ↦ other is
-      ]
-      | inr later ↦ never later
-    ])
-  ]
-]
-
--- the first of a list, or a later one
-pub first_or_later : (y : ℕ) (ys : List ℕ) (x : ℕ) → Contains (y ∷ ys) x → (y ≡ x) ⊎ Contains ys x
-first_or_later y ys x c = elim (Contains-append_cases (y ∷ []) ys x c) [
-  | inl first ↦ elim (Contains-push_cases [] y x first) [
-    | inl none ↦ absurd (omega (arith, none.1))
-    | inr is ↦ inl is
-  ]
-  | inr later ↦ inr later
-]
-
-pub later_in : (y : ℕ) (ys : List ℕ) (x : ℕ) → Contains ys x → Contains (y ∷ ys) x
-later_in y ys x c = Contains-append_right (y ∷ []) ys x c
-
-pub first_in : (y : ℕ) (ys : List ℕ) → Contains (y ∷ ys) y
-first_in y ys = Contains-append_left (y ∷ []) ys y (Contains-push [] y)
 
 -- an answer that is no refusal, where no named section is below the floor
 pub none_pruned : {T : Type 0} (v : T) (IsNamed : ℕ → Type 0) (floor : ℕ) → ((s : ℕ) → IsNamed s → floor ≤ s) → IsPruned {T = T} (Ok v) floor ↔ ((s : ℕ) × IsNamed s × (s < floor))

@@ -17,12 +17,13 @@ use Rattle.sealed_pages.specs.Unrecovered.{IsUnrecovered}
 use Rattle.sealed_pages.specs.View.{View, view}
 use Rattle.sealed_pages.proofs.adopted.Adopt.{length-data_from, get_or-data_from}
 use Rattle.sealed_pages.proofs.memory.Holding.{holds_leaves}
-use Rattle.sealed_pages.proofs.slots.SlotLemmas.{times_more, slot_stands}
+use Rattle.sealed_pages.proofs.slots.SlotLemmas.{slot_stands}
 use Rattle.sealed_pages.proofs.cutting.Truncating.{all_flushed, settles_of}
 use Rattle.sealed_pages.proofs.UnrecoveredLemmas.{prefix_leaves, unrecovered_prefix}
 use Rattle.sealed_pages.proofs.slots.WholeLemmas.{whole_covered}
 use Rattle.section_manager.specs.Leaving.{Leaves}
 use Rattle.section_manager.specs.Sealed.{is_unsettled, adopted_bytes, Stands, MayKeep}
+use Rattle.blob_device.proofs.general.Numbers.{times_more}
 
 settled_is : (m n : ℕ) → not (m == n) ≡ false → m ≡ n
 settled_is m n is = grind (arith, nat_tests)

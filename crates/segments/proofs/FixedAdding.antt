@@ -1,5 +1,5 @@
 -- How an append to a fixed journal ends, from what its manager and the section's buffer answered.
-use Rattle.std.proofs.Common.{◌≡◌, ◌≢◌, ◌⊎◌, ◌↔◌, ◌∙◌, inl, inr, ℕ, ◌+◌, ◌^◌, ◌<◌, ◌≤◌, List, ◌++◌, length, Option, None, Some, IsSome, Result, Ok, Err, OnErr, refl, sym, ap, subst, arith}
+use Rattle.std.proofs.Common.{◌≡◌, ◌≢◌, ◌⊎◌, ◌↔◌, ◌∙◌, inl, inr, ℕ, ◌+◌, ◌^◌, ◌<◌, ◌≤◌, List, ◌++◌, length, None, Some, Result, Ok, Err, OnErr, refl, sym, ap, subst, arith}
 use Rattle.std.specs.Result.{IsErrOf}
 use Rattle.blob_device.specs.Change.{Make, done}
 use Rattle.blob_device.specs.Counts.{Rose}
@@ -29,7 +29,6 @@ use Rattle.section_manager.specs.declared.buffer.SectionBuffer as buffer
 use Rattle.section_manager.specs.declared.journal.Error.{Error}
 use Rattle.section_manager.specs.declared.journal.Error.TheVariants.{AlreadyPrunedToSection, Full, Mem}
 use Rattle.section_manager.specs.declared.sealed.AppendFactory.{AppendFactory}
-use Rattle.section_manager.proofs.WalkLemmas.{has_value, none_or_value}
 use Rattle.segments.specs.FixedAdding.{Appends, Overfills, WouldOverfill}
 use Rattle.segments.specs.FixedFull.{full_or_raised_of}
 use Rattle.segments.specs.FixedLasting.{IsBeginning}
@@ -37,9 +36,7 @@ use Rattle.segments.specs.FixedLists.{Lists, section_bytes, section_size, size_h
 use Rattle.segments.proofs.FixedAppendLemmas.{Takes, beginning, first_fits, full_here, held_sealing, start_sealing, steady_start, taken_adopted, taken_sealed, taken_still}
 use Rattle.segments.proofs.FixedCalls.{moved}
 use Rattle.segments.proofs.FixedWriteLemmas.{ArePages}
-
-some_held : {B : Type 0} (o : Option B) (u : B) → o ≡ Some u → IsSome o
-some_held o u is = subst IsSome (sym is) refl
+use Rattle.blob_device.proofs.general.Options.{has_value, none_or_value, some_there}
 
 -- an answer and what it says, under another name
 pub answer_as : {T D : Type 0} (P : Result T Error → D → Type 0) (r : Result T Error) (e : Error) (d : D) → r ≡ Err e → P (Err e) d → P r d
@@ -180,7 +177,7 @@ module _ {S D : Type 0} {gs : _} (seal : List ℕ → ℕ) (size : ℕ) (g : buf
       (opening : dev.Tells → AllMoments (key_of j.sections s) (IsOpening (disk (dev.time old) (key_of j.sections s))) (dev.time old) (dev.time mid))
       (entries : OnlyOwnEntry (key_of j.sections s) (dev.opened old) (dev.opened mid)) (faults : dev.faults old ≤ dev.faults mid) where
     stood : (u : PageBlob S gs) → j.sections.held s ≡ Some u → dev.time old ≡ dev.time mid
-    stood u held = ap dev.time (sym (untouched (some_held (j.sections.held s) u held)))
+    stood u held = ap dev.time (sym (untouched (some_there (j.sections.held s) u held)))
 
     pub along_untaken : (n : ℕ) → Along n mid
     along_untaken n = record {
@@ -191,7 +188,7 @@ module _ {S D : Type 0} {gs : _} (seal : List ℕ → ℕ) (size : ℕ) (g : buf
           (steady_start seal (shown u) (key_of j.sections s) (dev.time old) u.fit.begun un);
       made = λ t none. only_weaker (dev.time old) (dev.time mid) (key_of j.sections s) (disk (dev.time old)) (IsOpening (disk (dev.time old) (key_of j.sections s)))
           (IsBeginning seal j.sections.factory.pages.page_size spelled (disk (dev.time old) (key_of j.sections s))) (λ x is. inl is) (opening t);
-      below = λ u held flushes. untouched (some_held (j.sections.held s) u held);
+      below = λ u held flushes. untouched (some_there (j.sections.held s) u held);
       entries = entries;
       faults = faults;
     }
@@ -253,7 +250,7 @@ module _ {S D : Type 0} {gs : _} (seal : List ℕ → ℕ) (size : ℕ) (g : buf
           (crashes t (subst (λ (q : Key). IsSealed seal (shown u) (disk (dev.time mid) q)) (sym took.key) sealed))
 
       was_there : (w : PageBlob S gs) → j.sections.held s ≡ Some w → mid ≡ old
-      was_there w held = took.untouched (some_held (j.sections.held s) w held)
+      was_there w held = took.untouched (some_there (j.sections.held s) w held)
 
       pub along_taken : Along (length spelled) new
       along_taken = record {

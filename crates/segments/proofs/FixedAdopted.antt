@@ -14,9 +14,9 @@ use Rattle.sealed_pages.specs.Slots.{page_length}
 use Rattle.sealed_pages.specs.View.{view}
 use Rattle.sealed_pages.proofs.looking.Looking.{size_found, size_none, size_zero}
 use Rattle.sealed_pages.proofs.slots.SealedBytes.{page_length-le}
-use Rattle.sealed_pages.proofs.slots.SlotLemmas.{times_more}
 use Rattle.segments.specs.FixedFloors.{IsAdoptedOver}
 use Rattle.segments.proofs.FixedKept.{item_data}
+use Rattle.blob_device.proofs.general.Numbers.{times_more}
 
 module _ (seal : List ℕ → ℕ) (P : ℕ) (c : List ℕ) where
   -- the page in which the data end

@@ -14,7 +14,8 @@ use Rattle.segments.specs.FixedCursor.{after_items, leaving}
 use Rattle.segments.specs.FixedReplay.{Place, Walk, IsAhead, StandsIn, ReadsIn, HasWalk, WalksOver}
 use Rattle.segments.specs.FixedStepping.{failing, standing}
 use Rattle.segments.proofs.FixedEnding.{place_fails, reads_fails}
-use Rattle.segments.proofs.FixedReading.{advanced, some_and, the_some}
+use Rattle.segments.proofs.FixedReading.{advanced, some_and}
+use Rattle.blob_device.proofs.general.Options.{the_some}
 
 module _ {F S : Type 0} {gs : _} (seal : List ℕ → ℕ) (size : ℕ) (w : Walk F (PageBlob S gs)) (r : Place) (count : ℕ) (has : count * size ≤ length r.reader.bytes) where
   abbrev on : Place

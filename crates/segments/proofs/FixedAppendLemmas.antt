@@ -37,12 +37,13 @@ use Rattle.section_manager.specs.Sections.{Sections, key_of, IsHeld, IsKnown, Is
 use Rattle.section_manager.specs.Setting.{Setting}
 use Rattle.section_manager.proofs.sections.KeyLemmas.{keys_differ}
 use Rattle.section_manager.proofs.sections.OverLemmas.{same_key}
-use Rattle.section_manager.proofs.WalkLemmas.{none_or_value, some_same}
 use Rattle.segments.specs.FixedFull.{full_or_raised_of}
 use Rattle.segments.specs.FixedLasting.{IsBeginning}
 use Rattle.segments.specs.FixedLists.{Lists, section_bytes, section_size, IsJournal, IsRecovered, IsProven}
 use Rattle.segments.proofs.FixedWriteLemmas.{ArePages, IsFine, proven_back, fine_of, journal_of, fine_same}
-use Rattle.segments.proofs.FixedCutLemmas.{no_rest, empty_sealed}
+use Rattle.segments.proofs.FixedCutLemmas.{empty_sealed}
+use Rattle.blob_device.proofs.general.Numbers.{no_rest}
+use Rattle.blob_device.proofs.general.Options.{none_or_value, some_same}
 
 no_items : (l : List ℕ) → length l ≡ 0 → l ≡ []
 no_items [] none = refl

@@ -8,9 +8,9 @@ use Rattle.sealed_pages.specs.View.{view}
 use Rattle.value_codec.specs.declared.codec.Error as codec
 use Rattle.section_manager.specs.Sections.{section_key}
 use Rattle.section_manager.specs.declared.journal.Damage.{Damage}
-use Rattle.section_manager.proofs.WalkLemmas.{value_of, has_value}
 use Rattle.segments.specs.FixedCheckpoint.{boundary_at, IsUnder, IsRefused, IsKept, IsPassed, IsRefusedItem, IsShown, AreChecked}
 use Rattle.segments.specs.FixedFloors.{Floors, IsBoundary}
+use Rattle.blob_device.proofs.general.Options.{has_value, value_of}
 
 module _ (seal : List ℕ → ℕ) (P size : ℕ) (partition : List ℕ) (at bytes : ℕ) (e d : Disk) where
   -- each blob of a section reads as before

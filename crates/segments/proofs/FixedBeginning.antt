@@ -15,8 +15,8 @@ use Rattle.section_manager.specs.Setting.{Setting}
 use Rattle.section_manager.specs.Sections.{Sections, key_of, IsHeld}
 use Rattle.segments.specs.FixedLists.{Lists, IsProven, OwesHeld, OwesSettled, AreSealed, UnopenedLater, IsJournal}
 use Rattle.segments.specs.FixedReplay.{Walk, IsDrained, HasWalk, IsWalk, WalksOver, first_of}
-use Rattle.segments.proofs.FixedWalks.{is_some, none_in}
 use Rattle.segments.proofs.FixedWriteLemmas.{proven_back}
+use Rattle.blob_device.proofs.general.Options.{none_in, some_there}
 
 -- a position that is not past the end is within the bytes
 position_fits : (size n p : ℕ) → (n / size < p → ⊥) → p * size ≤ n
@@ -55,7 +55,7 @@ finished_start size w j walk fine drained same u held =
     let here : w.journal.sections.held w.start_section ≡ Some u = (λ i. (sym same i).held w.start_section) ∙ held in
     walk.start_kept fine (record {
       begun = omega arith;
-      not_ahead = λ ahead. drained.last w.start_section (is_some (w.journal.sections.held w.start_section) u here) ahead;
+      not_ahead = λ ahead. drained.last w.start_section (some_there (w.journal.sections.held w.start_section) u here) ahead;
       not_in = λ there. none_in w.place (λ r. r.section ≡ w.start_section) drained.between there;
     }) u here
 
@@ -102,7 +102,7 @@ finished_sealed {S = S} {gs = gs} seal size w j d over fine drained same kept fl
     gone : (s : ℕ) (u : PageBlob S gs) → w.journal.sections.held s ≡ Some u → IsFromFirst w s → IsSealed seal (shown u) (d (key_of w.journal.sections s)) × (size_of (shown u) % size ≡ 0)
     gone s u held from = over.gone_over fine s u held (record {
       begun = first_begun w s from;
-      not_ahead = λ ahead. drained.last s (is_some (w.journal.sections.held s) u held) ahead;
+      not_ahead = λ ahead. drained.last s (some_there (w.journal.sections.held s) u held) ahead;
       not_in = λ there. none_in w.place (λ r. r.section ≡ s) drained.between there;
     }) (inr (first_none w s from))
 

@@ -28,10 +28,10 @@ use Rattle.section_manager.specs.declared.buffer.SectionBuffer as buffer
 use Rattle.section_manager.specs.declared.journal.Error.{Error}
 use Rattle.segments.specs.FixedBounds.{whole_of, sealed_size, Measures, Recovers, FindsEnd}
 use Rattle.segments.specs.FixedLists.{Lists, size_held}
-use Rattle.section_manager.proofs.WalkLemmas.{some_same}
 use Rattle.segments.proofs.FixedItemReads.{no_reads}
 use Rattle.segments.proofs.FixedPassing.{no_error, guard_on}
 use Rattle.segments.proofs.FixedSections.{journal_read}
+use Rattle.blob_device.proofs.general.Options.{some_same}
 
 -- whole items leave no rest
 pub whole_whole : (size n : ℕ) → 1 ≤ size → whole_of size n % size ≡ 0

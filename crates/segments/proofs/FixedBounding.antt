@@ -29,12 +29,11 @@ use Rattle.section_manager.specs.declared.sealed.AppendFactory.{AppendFactory}
 use Rattle.section_manager.specs.declared.unopened.Unopened.{Unopened}
 use Rattle.section_manager.specs.declared.unopened.Unopened.TheVariants.{Section, Leftover}
 use Rattle.section_manager.proofs.sections.KeyLemmas.{key_injective}
-use Rattle.section_manager.proofs.WalkLemmas.{value_of, none_or_value, some_same}
 use Rattle.segments.specs.FixedBounds.{whole_of, sealed_size, bounded_size, CuttingTail, IsTailCut, Bounding, IsOpenedWhole, IsOpenedCut}
 use Rattle.segments.specs.FixedLists.{Lists, bytes_held, section_bytes, section_size, IsJournal}
-use Rattle.segments.proofs.FixedKept.{last_place}
 use Rattle.segments.proofs.FixedWriteLemmas.{ArePages, size_here, bytes_here}
-use Rattle.segments.proofs.FixedWalks.{some_of}
+use Rattle.blob_device.proofs.general.Numbers.{last_place}
+use Rattle.blob_device.proofs.general.Options.{none_or_value, some_of, some_same, value_of}
 
 -- a settled blob outlives every crash as it is
 settled_content : (c x : List ℕ) → MayHold (settled_at c) x → x ≡ c

@@ -7,7 +7,6 @@ use Rattle.blob_device.specs.Disk.{Key, Disk}
 use Rattle.blob_device.specs.Timeline.{disk, Always, Each}
 use Rattle.blob_device.specs.declared.device.Device as device
 use Rattle.blob_device.proofs.Moments.{always_now, always_then, always_weaker}
-use Rattle.blob_device.proofs.Results.{err_with, on_err}
 use Rattle.sealed_pages.specs.Buffer.{size_of}
 use Rattle.sealed_pages.specs.Reading.{Unchanged}
 use Rattle.sealed_pages.specs.SealedPrefix.{sealed_prefix}
@@ -31,6 +30,7 @@ use Rattle.segments.proofs.FixedPassing.{failed_on, pruned_on, error_back}
 use Rattle.segments.proofs.FixedReading.{failed_since}
 use Rattle.segments.proofs.FixedSections.{journal_read, size_here}
 use Rattle.segments.proofs.FixedWriteLemmas.{ArePages}
+use Rattle.blob_device.proofs.general.Results.{err_with, on_err}
 
 pub if_ok_on : {T E : Type 0} {Q R : T → Type 0} (r : Result T E) → ((v : T) → Q v → R v) → IfOk r Q → IfOk r R
 if_ok_on (Ok v) on has = on v has

@@ -5,7 +5,7 @@ use Rattle.std.specs.List.{Contains}
 use Rattle.std.proofs.Common.{inl, inr, refl, sym, ◌∙◌, ap, subst, arith}
 use Rattle.std.proofs.lemmas.Nat.{div-mul-add}
 use Rattle.std.proofs.lemmas.List.Elements.{Contains-append_left, Contains-push, Contains-push_cases}
-use Rattle.std.proofs.lemmas.Bool.{cases_eq, cases_lt, eq-eqb, eqb-true}
+use Rattle.std.proofs.lemmas.Bool.{cases_Bool, cases_eq, cases_lt, eq-eqb, eqb-true}
 use Rattle.blob_device.specs.Disk.{Key, Disk}
 use Rattle.blob_device.specs.Opened.{OpenedList}
 use Rattle.blob_device.specs.Timeline.{disk}
@@ -17,7 +17,7 @@ use Rattle.sealed_pages.specs.Shown.{shown}
 use Rattle.sealed_pages.specs.Buffer.{size_of}
 use Rattle.sealed_pages.specs.View.{view}
 use Rattle.sealed_pages.specs.declared.page_blob.PageBlob.{PageBlob}
-use Rattle.sealed_pages.proofs.memory.Holding.{bool_or, extent_more}
+use Rattle.sealed_pages.proofs.memory.Holding.{extent_more}
 use Rattle.sealed_pages.proofs.looking.Looking.{unchanged_now, unchanged_start, unchanged_then}
 use Rattle.value_codec.specs.declared.codec.Error as codec
 use Rattle.section_manager.specs.Refusing.{HasFailed}
@@ -27,7 +27,6 @@ use Rattle.section_manager.specs.declared.buffer.SectionBuffer as buffer
 use Rattle.section_manager.specs.declared.journal.Damage.{Damage}
 use Rattle.section_manager.specs.declared.journal.Error.{Error}
 use Rattle.section_manager.specs.declared.journal.Error.TheVariants.{Codec, Corruption}
-use Rattle.section_manager.proofs.WalkLemmas.{value_of, has_value, none_or_value}
 use Rattle.segments.specs.FixedCheckpoint.{boundary_at, IsUnder, IsRefused, IsPassed, IsRefusedItem, IsShown, AreChecked, HasCome, Looks}
 use Rattle.segments.specs.FixedChecks.{ChecksMarker}
 use Rattle.segments.specs.declared.fixed.preflighting.Target.{Target}
@@ -38,6 +37,7 @@ use Rattle.segments.proofs.FixedFloorLemmas.{whole_items}
 use Rattle.segments.proofs.FixedPassing.{failed_on, error_back}
 use Rattle.segments.proofs.FixedReading.{failed_since}
 use Rattle.segments.proofs.FixedWriteLemmas.{ArePages}
+use Rattle.blob_device.proofs.general.Options.{has_value, none_or_value, value_of}
 
 -- n whole items have the bytes that they were counted by
 pub whole_count : (n size : ℕ) → 1 ≤ size → n % size ≡ 0 → n / size * size ≡ n
@@ -54,7 +54,7 @@ module _ (seal : List ℕ → ℕ) (P size : ℕ) (partition : List ℕ) (at byt
 
   -- an earlier one where adopting its blob finds the end
   pub boundary_earlier : (s : ℕ) → s < at → boundary_at seal P size partition at bytes d s ≡ adopted_size seal P (d (section_key partition s)).content
-  boundary_earlier s less = elim (bool_or (eqb s at)) [
+  boundary_earlier s less = elim (cases_Bool (eqb s at)) [
     | inl is ↦ absurd (omega (arith, less, eqb-true s at is))
     | inr not ↦ ap (λ (b : Bool). cond b bytes (adopted_size seal P (d (section_key partition s)).content)) not
   ]

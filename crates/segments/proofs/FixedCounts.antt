@@ -1,7 +1,7 @@
 -- How many reads of a section's blob are left to a replay, after one section changed.
 use Rattle.std.specs.Prelude.{◌≡◌, ◌≢◌, ℕ, ◌+◌, ◌≤◌, eqb, leb, cond, Bool, List, IsSomeAnd, Option, None, Some}
 use Rattle.std.proofs.Common.{inl, inr, refl, sym, ◌∙◌, ap, subst, arith}
-use Rattle.std.proofs.lemmas.Bool.{eq-eqb, eqb-true, le-leb, leb-true}
+use Rattle.std.proofs.lemmas.Bool.{cases_Bool, eq-eqb, eqb-true, le-leb, leb-true}
 use Rattle.blob_device.specs.Disk.{Key, Disk}
 use Rattle.blob_device.specs.Opened.{Opened, OpenedList, reads_of}
 use Rattle.sealed_pages.specs.Cutting.{FewReads}
@@ -11,7 +11,6 @@ use Rattle.sealed_pages.specs.Shown.{shown}
 use Rattle.sealed_pages.specs.Buffer.{size_of}
 use Rattle.sealed_pages.specs.Readers.{unread_of}
 use Rattle.sealed_pages.specs.Reads.{pages_for}
-use Rattle.sealed_pages.proofs.memory.Holding.{bool_or}
 use Rattle.section_manager.specs.Sections.{IsHeld}
 use Rattle.segments.specs.FixedReplay.{Place, Walk, IsAhead, IsIn}
 use Rattle.segments.specs.FixedStepping.{standing, ahead_count, place_count, held_count, reads_left}
@@ -20,7 +19,7 @@ use Rattle.segments.proofs.FixedWalks.{OnlyOne, IsBehind}
 -- the replay stands in another section
 place_none : (o : Option Place) (t more x : ℕ) → (IsSomeAnd o (λ r. r.section ≡ t) → ⊥) → place_count o t more x ≡ x
 place_none None t more x out = refl
-place_none (Some r) t more x out = elim (bool_or (eqb r.section t)) [
+place_none (Some r) t more x out = elim (cases_Bool (eqb r.section t)) [
   | inl is ↦ absurd (out (eqb-true r.section t is))
   | inr not ↦ ap (λ (b : Bool). cond b (unread_of r.reader + more) x) not
 ]
@@ -31,7 +30,7 @@ place_in r t more x is = ap (λ (b : Bool). cond b (unread_of r.reader + more) x
 
 ahead_none : (o : Option ℕ) (t n : ℕ) → (IsSomeAnd o (λ k. k ≤ t) → ⊥) → ahead_count o t n ≡ 0
 ahead_none None t n out = refl
-ahead_none (Some k) t n out = elim (bool_or (leb k t)) [
+ahead_none (Some k) t n out = elim (cases_Bool (leb k t)) [
   | inl is ↦ absurd (out (leb-true k t is))
   | inr not ↦ ap (λ (b : Bool). cond b n 0) not
 ]
@@ -42,7 +41,7 @@ ahead_all (Some k) t n here = ap (λ (b : Bool). cond b n 0) (le-leb k t here)
 
 ahead_less : (o p : Option ℕ) (t n : ℕ) → (IsSomeAnd o (λ k. k ≤ t) → IsSomeAnd p (λ k. k ≤ t)) → ahead_count o t n ≤ ahead_count p t n
 ahead_less None p t n to = omega arith
-ahead_less (Some k) p t n to = elim (bool_or (leb k t)) [
+ahead_less (Some k) p t n to = elim (cases_Bool (leb k t)) [
   | inl is ↦ (let here : k ≤ t = leb-true k t is in omega (arith, ahead_all p t n (to here), ap (λ (b : Bool). cond b n 0) is))
   | inr not ↦ (let none : ahead_count (Some k) t n ≡ 0 = ap (λ (b : Bool). cond b n 0) not in omega (arith, none))
 ]

@@ -1,7 +1,6 @@
 -- What a cut of one section makes of a fixed journal, and what it leaves of the section's blob.
 use Rattle.std.proofs.Common.{◌≡◌, ◌≢◌, ◌⊎◌, inl, inr, ℕ, ◌%◌, ◌^◌, ◌<◌, ◌≤◌, min, false, List, length, None, Some, IsSome, IsSomeAnd, IsTrue, refl, sym, ◌∙◌, ap, subst, arith}
 use Rattle.std.proofs.lemmas.Bool.{cases_eq, cases_lt}
-use Rattle.std.proofs.Math.Nat.{div-add-mod}
 use Rattle.blob_device.specs.Disk.{Key, Blob}
 use Rattle.blob_device.specs.Opened.{OpenedList}
 use Rattle.blob_device.specs.Timeline.{Timeline, disk, OnlyAt}
@@ -14,7 +13,6 @@ use Rattle.sealed_pages.specs.SealedPrefix.{sealed_prefix}
 use Rattle.sealed_pages.specs.Shown.{shown}
 use Rattle.sealed_pages.specs.Unrecovered.{IsUnrecovered, IsAdopted, IsSafeCut}
 use Rattle.sealed_pages.proofs.slots.PageCalls.{only_weaker}
-use Rattle.sealed_pages.proofs.slots.SlotLemmas.{times_more}
 use Rattle.sealed_pages.proofs.cutting.Truncating.{all_flushed, settles_of}
 use Rattle.sealed_pages.proofs.UnrecoveredLemmas.{unrecovered_prefix, adopted_sealed, prefix_settled}
 use Rattle.section_manager.specs.declared.buffer.SectionBuffer as buffer
@@ -23,12 +21,10 @@ use Rattle.section_manager.specs.Sections.{key_of, IsSame, SameBounds, IsOver, I
 use Rattle.section_manager.specs.Setting.{Setting}
 use Rattle.section_manager.proofs.sections.KeyLemmas.{keys_differ}
 use Rattle.section_manager.proofs.sections.OverLemmas.{same_key}
-use Rattle.section_manager.proofs.WalkLemmas.{value_of, has_value, some_same, none_or_value}
 use Rattle.segments.specs.FixedLists.{Lists, section_bytes, IsJournal, IsProven}
 use Rattle.segments.proofs.FixedWriteLemmas.{ArePages, IsFine, fine_of, journal_of, fine_same, fine_none, leaves_sealed, leaves_front, proven_back, proven_or_not}
-
-pub no_rest : (n : ℕ) → 0 % n ≡ 0
-no_rest n = omega (arith, div-add-mod 0 n)
+use Rattle.blob_device.proofs.general.Numbers.{no_rest, times_more}
+use Rattle.blob_device.proofs.general.Options.{has_value, none_or_value, some_same, value_of}
 
 -- an empty buffer that stands over its blob is sealed
 pub empty_sealed : (seal : List ℕ → ℕ) (u : Buffer) (b : Blob) → u.from < u.page_size → size_of u ≡ 0 → IsAdopted seal u b → IsSealed seal u b

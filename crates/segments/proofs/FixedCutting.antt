@@ -30,8 +30,9 @@ use Rattle.segments.proofs.FixedKept.{whole_place}
 use Rattle.segments.proofs.FixedReading.{here, kept_owed, ahead_here, number_here, reached_here, behind_here}
 use Rattle.segments.proofs.FixedOwed.{items_cut}
 use Rattle.segments.proofs.FixedSteps.{Called, Answered, call_failed, call_ended, call_refused}
-use Rattle.segments.proofs.FixedWalks.{MayCut, same_some, none_in, key_new, later_one}
+use Rattle.segments.proofs.FixedWalks.{MayCut, key_new, later_one}
 use Rattle.segments.proofs.FixedWalksOn.{replaying_here, moments_of}
+use Rattle.blob_device.proofs.general.Options.{none_in, same_some}
 
 -- of a prefix of the bytes a crash leaves a prefix of them
 leaves_whole : (seal : List ℕ → ℕ) (P : ℕ) (bytes : List ℕ) (n least : ℕ) (b : Blob) → Leaves seal P (take n bytes) least b → Leaves seal P bytes least b

@@ -17,7 +17,6 @@ use Rattle.sealed_pages.specs.Reads.{IsShort}
 use Rattle.sealed_pages.specs.Shown.{shown}
 use Rattle.sealed_pages.specs.declared.page_blob.PageBlob.{PageBlob}
 use Rattle.sealed_pages.proofs.memory.Holding.{bytes_length}
-use Rattle.sealed_pages.proofs.slots.SlotLemmas.{times_more}
 use Rattle.sealed_pages.proofs.cutting.Truncating.{all_flushed, settles_of}
 use Rattle.value_codec.specs.declared.codec.Error as codec
 use Rattle.section_manager.specs.Answers.{seen}
@@ -27,7 +26,6 @@ use Rattle.section_manager.specs.declared.buffer.SectionBuffer as buffer
 use Rattle.section_manager.specs.declared.journal.Damage.{Damage}
 use Rattle.section_manager.specs.declared.journal.Error.{Error}
 use Rattle.section_manager.specs.declared.journal.Error.TheVariants.{Codec, Corruption, ItemOutOfRange, ReplayFailed, Runtime}
-use Rattle.section_manager.proofs.WalkLemmas.{value_of, has_value}
 use Rattle.segments.specs.FixedBounds.{whole_of}
 use Rattle.segments.specs.FixedDraining.{IsBadPage, IsFromStart, IsBeforeStart, IsGoneThrough, IsFirstRefused, Drains}
 use Rattle.segments.specs.FixedItems.{item_at, IsItem}
@@ -35,12 +33,13 @@ use Rattle.segments.specs.FixedLists.{Lists, bytes_held, section_bytes, OwesHeld
 use Rattle.segments.specs.FixedReading.{HasNotRead, IsBelowFloor}
 use Rattle.segments.specs.FixedReplay.{Walk, IsAhead, IsIn, IsLeft, IsDrained, IsGoneOver, SameWalk, SameItems, IsSameOrCut, KeepsSections, KeepsFloors, KeepsBytes, KeepsItems, IsWalk, Gives, Refuses, Replaying, LeavesNoMore, EndsBelow, FindsDamage, kept_of, kept_bytes}
 use Rattle.segments.specs.FixedStepping.{reads_left, ReadsOnce}
-use Rattle.segments.proofs.FixedCutLemmas.{no_rest}
 use Rattle.segments.proofs.FixedKept.{short_item}
 use Rattle.segments.proofs.FixedOwed.{same_items, items_then, same_or_cut, cut_then}
 use Rattle.segments.proofs.FixedRunning.{idle_after}
-use Rattle.segments.proofs.FixedWalks.{is_some, same_some, some_of, same_bytes, none_in}
+use Rattle.segments.proofs.FixedWalks.{same_bytes}
 use Rattle.segments.proofs.FixedWalksOn.{replaying_start}
+use Rattle.blob_device.proofs.general.Numbers.{no_rest, times_more}
+use Rattle.blob_device.proofs.general.Options.{has_value, none_in, same_some, some_of, some_there, value_of}
 
 -- ---- lists of items
 
@@ -103,8 +102,8 @@ module _ {F S : Type 0} {gs : _} (seal : List ℕ → ℕ) (size : ℕ) (told : 
       go : (o : Bool) → w.journal.unrecovered s ≡ o → (h : Option (PageBlob S gs)) → w.journal.sections.held s ≡ h → (k : Option (PageBlob S gs)) → now.journal.sections.held s ≡ k
           → HasSameItems size (kept_bytes seal size w d s) (kept_bytes seal size now e s)
       go o owes None was None is = items_like size (kept_bytes seal size w d s) (kept_bytes seal size now e s) [] [] (old_is o None owes was) (new_is o None owes is) (same_list size [] [] refl)
-      go o owes None was (Some v) is = (let u = some_of (w.journal.sections.held s) ((held s).0 (is_some (now.journal.sections.held s) v is)) in absurd (cc (was, u.1)))
-      go o owes (Some u) was None is = (let v = some_of (now.journal.sections.held s) ((held s).1 (is_some (w.journal.sections.held s) u was)) in absurd (cc (is, v.1)))
+      go o owes None was (Some v) is = (let u = some_of (w.journal.sections.held s) ((held s).0 (some_there (now.journal.sections.held s) v is)) in absurd (cc (was, u.1)))
+      go o owes (Some u) was None is = (let v = some_of (now.journal.sections.held s) ((held s).1 (some_there (w.journal.sections.held s) u was)) in absurd (cc (is, v.1)))
       go false free (Some u) was (Some v) is =
           items_like size (kept_bytes seal size w d s) (kept_bytes seal size now e s) (bytes_of (shown u) (d (key_of w.journal.sections s)).content) (bytes_of (shown v) (e (key_of w.journal.sections s)).content)
           (old_is false (Some u) free was) (new_is false (Some v) free is)
@@ -177,7 +176,7 @@ module _ {F S V : Type 0} {gs : _} (seal : List ℕ → ℕ) (size : ℕ) (g : b
 
     -- the section's buffer between the two
     held_mid : (s : ℕ) (u : PageBlob S gs) → old.journal.sections.held s ≡ Some u → (x : PageBlob S gs) × (mid.journal.sections.held s ≡ Some x)
-    held_mid s u held = some_of (mid.journal.sections.held s) ((first.held s).1 (is_some (old.journal.sections.held s) u held))
+    held_mid s u held = some_of (mid.journal.sections.held s) ((first.held s).1 (some_there (old.journal.sections.held s) u held))
 
     bytes_both : KeepsBytes told old new (disk a) (disk c)
     bytes_both s u v held now free =
@@ -375,9 +374,9 @@ module _ {F S V D : Type 0} {gs : _} (seal : List ℕ → ℕ) (size : ℕ) (g :
         let has = damaged t k at in
         let s = has.section in
         let v = value_of (next.journal.sections.held s) (λ v. (has.position + 1) * size ≤ size_of (shown v)) has.within in
-        let held = is_some (next.journal.sections.held s) v.value v.is in
+        let held = some_there (next.journal.sections.held s) v.value v.is in
         let x = some_of (now.journal.sections.held s) ((stays s (over.over.opened_list.apart s held)).1.0 held) in
-        let u = some_of (w.journal.sections.held s) ((run.held s).0 (is_some (now.journal.sections.held s) x.0 x.1)) in
+        let u = some_of (w.journal.sections.held s) ((run.held s).0 (some_there (now.journal.sections.held s) x.0 x.1)) in
         let owes_none : now.journal.unrecovered s ≡ false = sym (same.unrecovered s) ∙ has.free in
         let free : w.journal.unrecovered s ≡ false = sym (run.same.unrecovered s) ∙ owes_none in
         let count : size_of (shown v.value) ≡ size_of (shown u.0) = (bytes s x.0 v.value x.1 v.is owes_none).size ∙ (run.bytes s u.0 x.0 u.1 x.1 free).size in
@@ -444,7 +443,7 @@ module _ {F S V D : Type 0} {gs : _} (seal : List ℕ → ℕ) (size : ℕ) (g :
           over_it : (u : PageBlob S gs) → now.journal.sections.held s ≡ Some u → IsGoneOver now s
           over_it u is = record {
             begun = omega (arith, from, run.same.section);
-            not_ahead = λ ahead. drained.last s (is_some (now.journal.sections.held s) u is) ahead;
+            not_ahead = λ ahead. drained.last s (some_there (now.journal.sections.held s) u is) ahead;
             not_in = λ there. none_in now.place (λ r. r.section ≡ s) drained.between there;
           }
 

@@ -18,7 +18,6 @@ use Rattle.sealed_pages.specs.declared.page_blob.PageBlob.{PageBlob}
 use Rattle.sealed_pages.specs.declared.pages.Pages.{Pages}
 use Rattle.sealed_pages.proofs.adopted.Adopt.{length-data_from}
 use Rattle.sealed_pages.proofs.Reaching.{prefix_size}
-use Rattle.sealed_pages.proofs.slots.SlotLemmas.{times_more, times_next}
 use Rattle.value_codec.specs.declared.codec.Error as codec
 use Rattle.section_manager.specs.Lasting.{IsGoing}
 use Rattle.section_manager.specs.SealedLaws.{all_settled}
@@ -35,8 +34,9 @@ use Rattle.segments.specs.FixedReplay.{Walk, IsLeft, Replaying, kept_of, kept_by
 use Rattle.segments.proofs.FixedBounding.{bounded_le}
 use Rattle.segments.proofs.FixedBoundLemmas.{whole_whole}
 use Rattle.segments.proofs.FixedDrainLemmas.{same_item}
-use Rattle.segments.proofs.FixedWalks.{is_some, some_of}
 use Rattle.segments.proofs.FixedWriteLemmas.{ArePages, bytes_here}
+use Rattle.blob_device.proofs.general.Numbers.{times_more, times_next}
+use Rattle.blob_device.proofs.general.Options.{some_of, some_there}
 
 -- what leaves a prefix of the first bytes of a list leaves one of the list
 leaves_front_on : (seal : List ℕ → ℕ) (P m least : ℕ) (bytes : List ℕ) (b : Blob) → m ≤ length bytes → Leaves seal P (take m bytes) least b → Leaves seal P bytes least b
@@ -165,7 +165,7 @@ module _ {S : Type 0} {gs : _} (seal : List ℕ → ℕ) (P size : ℕ) (pos : 1
     free_keeps : (s : ℕ) (u : PageBlob S gs) → j.sections.held s ≡ Some u → j.unrecovered s ≡ false
         → KeepsWhole size (bound s) (bytes_of (shown u) (mid (key_of j.sections s)).content) (sealed_prefix seal P (from (key_of j.sections s)).content)
     free_keeps s u held free =
-        let here : IsHeld j.sections s = is_some (j.sections.held s) u held in
+        let here : IsHeld j.sections s = some_there (j.sections.held s) u held in
         let zero = free_none s here free in
         let fits : adopted_size seal P (from (key_of j.sections s)).content ≤ whole_of size end = omega (arith, zero) in
         let none : length (bytes_of (shown u) (mid (key_of j.sections s)).content) ≡ 0 =
@@ -212,7 +212,7 @@ module _ {S : Type 0} {gs : _} (seal : List ℕ → ℕ) (P size : ℕ) (pos : 1
           → Leaves seal u.page_size (sealed_prefix seal u.page_size (mid (key_of j.sections s)).content) (length (sealed_prefix seal u.page_size (mid (key_of j.sections s)).content) / size * size) b
           → Leaves seal P (sealed_prefix seal P (from (key_of j.sections s)).content) (bound s) b
       cut_keeps s u held b leaves =
-          let here : IsHeld j.sections s = is_some (j.sections.held s) u held in
+          let here : IsHeld j.sections s = some_there (j.sections.held s) u held in
           let paged_leaves = subst (λ (Q : ℕ). Leaves seal Q (sealed_prefix seal Q (mid (key_of j.sections s)).content) (length (sealed_prefix seal Q (mid (key_of j.sections s)).content) / size * size) b) (page_of s u held) leaves in
           let least = subst (λ (m : ℕ). Leaves seal P (sealed_prefix seal P (mid (key_of j.sections s)).content) m b) (keeps_prefix s here).count paged_leaves in
           elim (sealed_as s here) [
@@ -301,7 +301,7 @@ module _ {S : Type 0} {gs : _} (seal : List ℕ → ℕ) (P size : ℕ) (pos : 1
           known = λ s. gone.unopened s ∙ cut.whole.known s;
           gone = λ t s lt there. later_still t to (now t) s lt there.0 ∙ cut.whole.gone t s lt there;
           floors = λ s. gone.lifted s (from_start s);
-          idle = λ s v held. (let u = some_of (j.sections.held s) ((gone.held s).0 (is_some (k.sections.held s) v held)) in gone.idle s u.0 v u.1 held (cut.whole.idle s u.0 u.1));
+          idle = λ s v held. (let u = some_of (j.sections.held s) ((gone.held s).0 (some_there (k.sections.held s) v held)) in gone.idle s u.0 v u.1 held (cut.whole.idle s u.0 u.1));
           partition_is = gone.bounds.place.partition;
           pages_are = ap (λ (f : AppendFactory S). f.pages) gone.bounds.place.factory ∙ cut.whole.pages_are;
           write_buffer_is = ap (λ (f : AppendFactory S). f.write_buffer) gone.bounds.place.factory ∙ cut.whole.write_buffer_is;

@@ -5,7 +5,6 @@ use Rattle.blob_device.specs.Disk.{Key}
 use Rattle.blob_device.specs.Timeline.{disk, Always, Each}
 use Rattle.blob_device.specs.declared.device.Device as device
 use Rattle.blob_device.proofs.Moments.{always_now, always_then, always_weaker}
-use Rattle.blob_device.proofs.Results.{on_err}
 use Rattle.sealed_pages.specs.declared.page_blob.PageBlob.{PageBlob}
 use Rattle.sealed_pages.specs.declared.pages.Pages.{Pages}
 use Rattle.value_codec.specs.declared.codec.Error as codec
@@ -16,7 +15,6 @@ use Rattle.section_manager.specs.declared.buffer.SectionBuffer as buffer
 use Rattle.section_manager.specs.declared.journal.Error.{Error}
 use Rattle.section_manager.specs.declared.journal.Error.TheVariants.{Codec, InvalidBlobName, ItemOutOfRange, ReplayFailed}
 use Rattle.section_manager.specs.declared.sealed.AppendFactory.{AppendFactory}
-use Rattle.section_manager.proofs.WalkLemmas.{value_of}
 use Rattle.segments.specs.FixedBounds.{Bounding, IsOpenedCut, IsOpenedAtMost, Bounds, IsBoundCause, IsDrainCause, IsRefusedItem}
 use Rattle.segments.specs.FixedDraining.{Drains}
 use Rattle.segments.specs.FixedLists.{Lists}
@@ -26,6 +24,8 @@ use Rattle.segments.proofs.FixedBoundsEnds.{if_ok_on, opened_bounds}
 use Rattle.segments.proofs.FixedDrained.{begun, drained_bounding, refused_kept, opened_at_most}
 use Rattle.segments.proofs.FixedReading.{failed_since}
 use Rattle.segments.proofs.FixedWriteLemmas.{ArePages}
+use Rattle.blob_device.proofs.general.Options.{value_of}
+use Rattle.blob_device.proofs.general.Results.{on_err}
 
 -- no count is below none
 pub none_past : {T : Type 0} (o : Option T) (f : T → ℕ) → IsSomeAnd o (λ u. f u < 0) → ⊥

@@ -20,13 +20,13 @@ use Rattle.section_manager.specs.declared.buffer.SectionBuffer as buffer
 use Rattle.section_manager.specs.declared.journal.Error.{Error}
 use Rattle.section_manager.specs.declared.journal.Error.TheVariants.{Mem}
 use Rattle.section_manager.specs.declared.sealed.AppendFactory.{AppendFactory}
-use Rattle.section_manager.proofs.TurnLemmas.{before_turn}
 use Rattle.segments.specs.FixedCheckpoint.{IsUnder, AreChecked, HasCome, Looks}
 use Rattle.segments.specs.FixedChecks.{AreCheckable}
 use Rattle.segments.specs.FixedFloors.{Floors, AreAdopted}
 use Rattle.segments.proofs.FixedBoundsEnds.{if_ok_on}
 use Rattle.segments.proofs.FixedChecking.{come_named, looks_then}
 use Rattle.segments.proofs.FixedPassing.{no_error}
+use Rattle.blob_device.proofs.general.Lists.{before_turn}
 
 -- the numbers below that of this turn had theirs
 pub had_numbers : (xs : List ℕ) (i : ℕ) → i < length xs → IsStrictlySortedBy nat_cmp xs → (q : ℕ) → q < get_or xs i 0 → Contains xs q → Contains (take i xs) q

@@ -5,11 +5,11 @@ use Rattle.std.proofs.lemmas.Nat.{mul-le}
 use Rattle.blob_device.specs.Disk.{Disk}
 use Rattle.blob_device.specs.Opened.{OpenedList}
 use Rattle.sealed_pages.specs.declared.page_blob.PageBlob.{PageBlob}
-use Rattle.sealed_pages.proofs.slots.SlotLemmas.{times_next}
 use Rattle.section_manager.specs.declared.buffer.SectionBuffer as buffer
 use Rattle.section_manager.specs.Setting.{Setting}
 use Rattle.segments.specs.FixedReplay.{Place, Walk, IsWalk, StandsIn, ReadsIn}
 use Rattle.segments.specs.FixedStepping.{word, sections_ahead, failing}
+use Rattle.blob_device.proofs.general.Numbers.{times_next}
 
 -- the number behind s, if it is one
 abbrev pub IsNext : ℕ → Option ℕ → Type 0

@@ -12,15 +12,15 @@ use Rattle.sealed_pages.specs.Readers.{next_of}
 use Rattle.sealed_pages.specs.Reads.{IsShort}
 use Rattle.sealed_pages.specs.Unrecovered.{IsAdopted}
 use Rattle.sealed_pages.proofs.memory.Holding.{bytes_length}
-use Rattle.sealed_pages.proofs.slots.SlotLemmas.{times_next}
 use Rattle.section_manager.specs.declared.buffer.SectionBuffer as buffer
 use Rattle.section_manager.specs.Setting.{Setting}
 use Rattle.section_manager.specs.Sections.{key_of}
 use Rattle.segments.specs.FixedLists.{IsProven}
 use Rattle.segments.specs.FixedReplay.{Place, Walk, IsReadWhole, IsWalk, kept_bytes}
 use Rattle.segments.specs.FixedStepping.{standing, EndsAt}
-use Rattle.segments.proofs.FixedKept.{last_place, next_within, short_length, sealed_flushed, sealed_by_length, covered_length}
+use Rattle.segments.proofs.FixedKept.{next_within, short_length, sealed_flushed, sealed_by_length, covered_length}
 use Rattle.segments.proofs.FixedReading.{here, reads_here, kept_owed, kept_free}
+use Rattle.blob_device.proofs.general.Numbers.{last_place, times_next}
 
 module _ {F S : Type 0} {gs : _} (seal : List ℕ → ℕ) (size : ℕ) (g : buffer.Ghosts (PageBlob S gs)) (gives : F → Setting) {told : Type 0} (w : Walk F (PageBlob S gs)) (r : Place) (opened : OpenedList) (d : Disk)
     (was : IsWalk g gives seal size told (standing w r) opened d) (adopt : (u : PageBlob S gs) (b : Blob) → g.Stands u b → IsAdopted seal (shown u) b) (pos : 1 ≤ size) where

@@ -25,7 +25,6 @@ use Rattle.section_manager.specs.Setting.{Setting}
 use Rattle.section_manager.specs.declared.buffer.SectionBuffer as buffer
 use Rattle.section_manager.specs.declared.journal.Error.{Error}
 use Rattle.section_manager.specs.declared.journal.Error.TheVariants.{ItemOutOfRange, Runtime}
-use Rattle.section_manager.proofs.WalkLemmas.{some_same}
 use Rattle.segments.specs.FixedCursor.{leaving, Ends, Fills, IsFoundShort}
 use Rattle.segments.specs.FixedReplay.{Place, Walk, IsWalk, kept_bytes}
 use Rattle.segments.specs.FixedStepping.{standing, EndsAt}
@@ -34,6 +33,7 @@ use Rattle.segments.proofs.FixedFilling.{fills_as, filled, filled_failed, filled
 use Rattle.segments.proofs.FixedGoing.{ends_as}
 use Rattle.segments.proofs.FixedReading.{end_uncut, end_refused, here}
 use Rattle.segments.proofs.FixedRunning.{ok_at, walk_same}
+use Rattle.blob_device.proofs.general.Options.{some_same}
 
 module _ {F S : Type 0} {gs : _} (seal : List ℕ → ℕ) (size : ℕ) (g : buffer.Ghosts (PageBlob S gs)) (gives : F → Setting) {told : Type 0} (old : Walk F (PageBlob S gs)) (r : Place) (at : old.place ≡ Some r) (opened : OpenedList) (d : Disk)
     (over : IsWalk g gives seal size told old opened d) where

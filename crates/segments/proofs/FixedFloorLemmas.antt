@@ -20,7 +20,6 @@ use Rattle.blob_device.specs.Opened.{Opened, OpenedList}
 use Rattle.blob_device.specs.Timeline.{Timeline, disk, Always, Each}
 use Rattle.blob_device.proofs.Moments.{always_now}
 use Rattle.sealed_pages.specs.declared.pages.Pages.{Pages}
-use Rattle.blob_device.proofs.Results.{on_err}
 use Rattle.value_codec.specs.declared.codec.Error as codec
 use Rattle.sealed_pages.specs.declared.page_blob.PageBlob.{PageBlob}
 use Rattle.sealed_pages.specs.Reads.{IsCovered, IsShort, PassesSize}
@@ -34,7 +33,6 @@ use Rattle.sealed_pages.specs.Entries.{IsOpenAt}
 use Rattle.sealed_pages.proofs.memory.Holding.{bytes_length}
 use Rattle.sealed_pages.proofs.looking.Looking.{unchanged_now}
 use Rattle.sealed_pages.proofs.Reaching.{prefix_size}
-use Rattle.sealed_pages.proofs.slots.SlotLemmas.{times_next}
 use Rattle.sealed_pages.proofs.UnrecoveredLemmas.{adopted_backed}
 use Rattle.section_manager.specs.declared.buffer.SectionBuffer as buffer
 use Rattle.section_manager.specs.declared.journal.Damage.{Damage}
@@ -48,14 +46,15 @@ use Rattle.section_manager.specs.Sealed.{adopted_bytes}
 use Rattle.section_manager.specs.SealedLaws.{all_settled}
 use Rattle.section_manager.specs.Sections.{Sections, section_key, key_of, IsHeld, StandsOver, IsOver}
 use Rattle.section_manager.specs.Setting.{Setting}
-use Rattle.section_manager.proofs.sections.CutLemmas.{same_number}
 use Rattle.section_manager.proofs.InitLemmas.{settling_was, settling_there, settling_content}
 use Rattle.section_manager.proofs.sections.KeyLemmas.{keys_differ}
-use Rattle.section_manager.proofs.WalkLemmas.{some_same, value_of, has_value, none_or_value}
 use Rattle.segments.specs.FixedFloors.{Floors, AreAdopted, IsBoundary, Keeps, KeepsBoundary, IsUnsealed, IsRefused}
 use Rattle.segments.specs.FixedLists.{floor_in, bytes_held, size_held, section_bytes, section_size}
 use Rattle.segments.proofs.FixedKept.{short_length}
 use Rattle.segments.proofs.FixedWriteLemmas.{ArePages}
+use Rattle.blob_device.proofs.general.Numbers.{same_number, times_next}
+use Rattle.blob_device.proofs.general.Options.{has_value, none_or_value, some_same, value_of}
+use Rattle.blob_device.proofs.general.Results.{on_err}
 
 -- a read that ends below the greatest u64
 pub read_cause : {T : Type 0} (r : Result T RError) (W : ℕ → Type 0) (before now : ℕ) → (r ≡ Err OffsetOverflow → ⊥)

@@ -16,7 +16,6 @@ use Rattle.section_manager.specs.declared.buffer.SectionBuffer as buffer
 use Rattle.section_manager.specs.declared.sealed.AppendFactory.{AppendFactory}
 use Rattle.section_manager.specs.declared.unopened.Unopened.{Unopened}
 use Rattle.section_manager.specs.declared.unopened.Unopened.TheVariants.{Section, Leftover}
-use Rattle.section_manager.proofs.WalkLemmas.{none_or_value}
 use Rattle.segments.specs.FixedCheckpoint.{boundary_at, IsUnder, AreChecked, HasCome, Found, IsReady, IsOpenedFor}
 use Rattle.segments.specs.FixedFloors.{Floors}
 use Rattle.segments.specs.FixedLists.{Lists, section_size, size_held}
@@ -27,6 +26,7 @@ use Rattle.segments.proofs.FixedFloorLemmas.{AreOpened, adopted_now, was_there}
 use Rattle.segments.proofs.FixedOpenLemmas.{opened_journal}
 use Rattle.segments.proofs.FixedPreflights.{reads_as}
 use Rattle.segments.proofs.FixedWriteLemmas.{ArePages}
+use Rattle.blob_device.proofs.general.Options.{none_or_value}
 
 module _ {A S : Type 0} {gs : _} (seal : List ℕ → ℕ) (size at bytes : ℕ) (spelling : A → List ℕ) (accepted : A → Unit {0} → Type 0) (g : buffer.Ghosts (PageBlob S gs)) (gives : AppendFactory S → Setting)
     (are : ArePages g seal) (told : Type 0) (p : List ℕ) (pages : Pages) (from now : Timeline) (list : OpenedList) (m : Sections (AppendFactory S) (PageBlob S gs)) (f : Floors A)

@@ -8,14 +8,12 @@ use Rattle.blob_device.specs.Opened.{OpenedList}
 use Rattle.blob_device.specs.Timeline.{disk}
 use Rattle.blob_device.specs.declared.device.Device as device
 use Rattle.blob_device.specs.declared.runtime.RError.TheVariants.{InvalidChecksum}
-use Rattle.blob_device.proofs.Results.{on_ok}
 use Rattle.value_codec.specs.declared.codec.Error as codec
 use Rattle.sealed_pages.specs.declared.page_blob.PageBlob.{PageBlob}
 use Rattle.sealed_pages.specs.Buffer.{size_of, bytes_of, IsBacked}
 use Rattle.sealed_pages.specs.Buffer as pages
 use Rattle.sealed_pages.specs.Shown.{shown}
 use Rattle.sealed_pages.proofs.EntryLemmas.{only_read_of}
-use Rattle.sealed_pages.proofs.memory.Holding.{bool_or}
 use Rattle.sealed_pages.proofs.looking.Looking.{unchanged_now, unchanged_start}
 use Rattle.section_manager.specs.Refusing.{IsPruned}
 use Rattle.section_manager.specs.Sections.{key_of}
@@ -25,7 +23,6 @@ use Rattle.section_manager.specs.declared.journal.Error.{Error}
 use Rattle.section_manager.specs.declared.journal.Error.TheVariants.{Runtime, Codec, AlreadyPrunedToSection, SectionOutOfRange, ItemOutOfRange}
 use Rattle.section_manager.specs.declared.sealed.AppendFactory.{AppendFactory}
 use Rattle.section_manager.proofs.Seen.{err_same}
-use Rattle.section_manager.proofs.WalkLemmas.{value_of, some_same}
 use Rattle.segments.specs.FixedGetting.{Gets, GetsLast, GetsMany, ReadsItem, ReadsEach}
 use Rattle.segments.specs.FixedItems.{item_at, IsItem}
 use Rattle.segments.specs.FixedLists.{Lists, section_bytes, section_size, IsJournal}
@@ -34,6 +31,9 @@ use Rattle.segments.proofs.FixedItemReads.{no_reads}
 use Rattle.segments.proofs.FixedReadLemmas.{none_over}
 use Rattle.segments.proofs.FixedSections.{size_here, some_here, from_here, is_held, bytes_own, own_here, holds_own, journal_read, reads_as, sound_page}
 use Rattle.segments.proofs.FixedWriteLemmas.{ArePages}
+use Rattle.blob_device.proofs.general.Options.{some_same, value_of}
+use Rattle.blob_device.proofs.general.Results.{on_ok}
+use Rattle.std.proofs.lemmas.Bool.{cases_Bool}
 
 -- what a read of a buffer answers is none of these refusals
 unrefused : {T : Type 0} (x : Error) (a b n s p : ℕ) → HasNotRead {T = T} (Err x) a b → (x ≡ AlreadyPrunedToSection n) ⊎ ((x ≡ SectionOutOfRange s) ⊎ (x ≡ ItemOutOfRange p)) → ⊥
@@ -262,7 +262,7 @@ module _ {V S D : Type 0} {gs : _} (g : buffer.Ghosts (PageBlob S gs)) (gives : 
             accepted = reads.accepted;
             over = journal_read g gives seal size dev.Tells j _ _ _ _ _ (only_read_of _ _ _ _ reads.reads) (λ t. unchanged_now (dev.time old) (dev.time new) (reads.unchanged t)) journal;
             unchanged = reads.unchanged;
-            idle = λ no. elim (bool_or (is_item_held size u p)) [
+            idle = λ no. elim (cases_Bool (is_item_held size u p)) [
               | inl is ↦ reads.idle is
               | inr out ↦ absurd (no (some_here j.sections s u held (λ v. HasItem size v p × (is_item_held size v p ≡ false)) (inside, out)))
             ];

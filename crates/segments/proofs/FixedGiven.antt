@@ -14,7 +14,7 @@ use Rattle.segments.specs.FixedItems.{item_at, IsItem}
 use Rattle.segments.specs.FixedReplay.{IsLeft, IsDrained, StandsBefore, kept_bytes}
 use Rattle.segments.specs.FixedStepping.{reads_left}
 use Rattle.segments.proofs.FixedDrainLemmas.{kept_item}
-use Rattle.segments.proofs.FixedWalks.{none_in}
+use Rattle.blob_device.proofs.general.Options.{none_in}
 
 -- nothing is left of a replay that is drained, or has ended
 pub none_left : {F S : Type 0} {gs : _} (seal : List ℕ → ℕ) (size : ℕ) (now : At F (PageBlob S gs)) → IsDrained now.walk ⊎ (now.walk.ended ≡ true)

@@ -7,7 +7,6 @@ use Rattle.blob_device.specs.Timeline.{Timeline, disk}
 use Rattle.blob_device.specs.declared.device.Device as device
 use Rattle.blob_device.specs.declared.runtime.RError.TheVariants.{InvalidChecksum}
 use Rattle.blob_device.proofs.Moments.{always_now}
-use Rattle.blob_device.proofs.Results.{ok_with}
 use Rattle.sealed_pages.specs.Buffer.{size_of}
 use Rattle.sealed_pages.specs.Reads.{IsShort}
 use Rattle.sealed_pages.specs.Shown.{shown}
@@ -25,7 +24,9 @@ use Rattle.segments.specs.FixedReplay.{Place, Walk, WalksOver, IsWalk, EndsDamag
 use Rattle.segments.specs.FixedStepping.{failing, standing, ReadsOnce, Steps}
 use Rattle.segments.proofs.FixedKept.{next_within}
 use Rattle.segments.proofs.FixedStopping.{ended_here}
-use Rattle.segments.proofs.FixedReading.{read_failed, some_and, steps_read, the_some}
+use Rattle.segments.proofs.FixedReading.{read_failed, some_and, steps_read}
+use Rattle.blob_device.proofs.general.Options.{the_some}
+use Rattle.blob_device.proofs.general.Results.{ok_with}
 
 pub if_some_at : {A : Type 0} (o : Option A) (v : A) (P : A → Type 0) → o ≡ Some v → IfSome o P → P v
 if_some_at {A = A} o v P is has = subst (λ (x : Option A). IfSome x P) is has

@@ -1,8 +1,8 @@
 -- The bytes from which a replay gives items: what a reader has of them at hand, and where they end.
 use Rattle.std.proofs.Common.{◌≡◌, inl, inr, ℕ, ◌+◌, ◌*◌, ◌/◌, ◌%◌, ◌<◌, ◌≤◌, List, length, take, drop, refl, sym, ◌∙◌, ap, subst, arith, length-take, length-drop}
 use Rattle.std.proofs.lemmas.Bool.{cases_lt}
-use Rattle.std.proofs.lemmas.Nat.{le-div, div_below, mul-le}
-use Rattle.sealed_pages.proofs.memory.Holding.{bytes_length, div_place}
+use Rattle.std.proofs.lemmas.Nat.{mul-le}
+use Rattle.sealed_pages.proofs.memory.Holding.{bytes_length}
 use Rattle.std.proofs.lemmas.List.{get_or-take, get_or-drop}
 use Rattle.std.proofs.Math.Nat.{div-mul-le_self}
 use Rattle.blob_device.specs.Disk.{Blob}
@@ -18,10 +18,10 @@ use Rattle.sealed_pages.proofs.Reaching.{own_prefix}
 use Rattle.sealed_pages.proofs.looking.ReadLemmas.{read_data}
 use Rattle.sealed_pages.proofs.looking.ReplayLemmas.{data_all}
 use Rattle.sealed_pages.proofs.slots.SealedBytes.{covers_length}
-use Rattle.sealed_pages.proofs.slots.SlotLemmas.{times_next}
 use Rattle.sealed_pages.proofs.cutting.Truncating.{holds_prefix, prefix_covers}
 use Rattle.sealed_pages.proofs.UnrecoveredLemmas.{adopted_backed, prefix_short}
 use Rattle.segments.specs.FixedItems.{item_at}
+use Rattle.blob_device.proofs.general.Numbers.{div_place, times_next}
 
 data_front : (P m n k : ℕ) (v : View) → k ≤ n → take k (data_from P v m n) ≡ data_from P v m k
 data_front P m n k v le = read_data P m k v (take k (data_from P v m n)) (omega (arith, length-take k (data_from P v m n), length-data_from P v n m, le))
@@ -38,13 +38,6 @@ range_data P at n all v fits =
 -- an item among them
 pub item_data : (P size n p : ℕ) (v : View) → p * size + size ≤ n → item_at size (data_from P v 0 n) p ≡ data_from P v (p * size) size
 item_data P size n p v fits = range_data P (p * size) size n v fits
-
--- the place behind the last whole item
-pub last_place : (size n p : ℕ) → 1 ≤ size → p * size ≤ n → n < p * size + size → n / size ≡ p
-last_place size n p pos le lt =
-    let low : p ≤ n / size = le-div p n size (omega (arith, pos)) le in
-    let high : n / size < p + 1 = div_below n size (p + 1) (omega (arith, pos)) (omega (arith, lt, times_next p size)) in
-    omega (arith, low, high)
 
 pub whole_place : (size n p : ℕ) → 1 ≤ size → n / size ≡ p → p * size ≤ n
 whole_place size n p pos is = omega (arith, div-mul-le_self n size, ap (λ (x : ℕ). x * size) is)

@@ -38,8 +38,8 @@ use Rattle.segments.proofs.FixedCalls.{cut_stands}
 use Rattle.segments.proofs.FixedCounts.{few_reads}
 use Rattle.segments.proofs.FixedErrorSteps.{raised_cut}
 use Rattle.segments.proofs.FixedErrors.{runtime_of}
-use Rattle.segments.proofs.FixedWalks.{same_some}
 use Rattle.segments.proofs.FixedWriteLemmas.{ArePages}
+use Rattle.blob_device.proofs.general.Options.{same_some}
 
 safe_cut : (seal : List ℕ → ℕ) (u : Buffer) (n : ℕ) (b : Blob) → IsAdopted seal u b → n ≤ length (sealed_prefix seal u.page_size b.content) → IsSafeCut seal u n b
 safe_cut seal u n b (inl sealed) long = inl sealed

@@ -33,8 +33,8 @@ use Rattle.segments.proofs.FixedCalls.{flush_stands}
 use Rattle.segments.proofs.FixedCounts.{no_reads}
 use Rattle.segments.proofs.FixedErrorSteps.{raised_failed}
 use Rattle.segments.proofs.FixedLending.{AreAlike, own_key, own_stands, page_touches, page_steps, taken_same, touched_none, touched_out, touched_back}
-use Rattle.segments.proofs.FixedWalks.{same_some}
 use Rattle.segments.proofs.FixedWriteLemmas.{ArePages}
+use Rattle.blob_device.proofs.general.Options.{same_some}
 
 module _ {F S D : Type 0} (Q : Type 0) {gs : _} (seal : List ℕ → ℕ) (g : buffer.Ghosts (PageBlob S gs)) (gives : F → Setting) (are : ArePages g seal) (alike : AreAlike g) (dev : device.Ghosts D)
     (s : ℕ) (see : Q → Reader) (w v : Walk F (PageBlob S gs)) (rest : OnlySections w v) (ended : v.ended ≡ w.ended) (u : PageBlob S gs) (held : w.journal.sections.held s ≡ Some u) (old : D)

@@ -27,7 +27,6 @@ use Rattle.section_manager.specs.declared.journal.Damage.{Damage}
 use Rattle.section_manager.specs.declared.journal.Error.{Error}
 use Rattle.section_manager.specs.declared.journal.Error.TheVariants.{Codec, Corruption, InvalidBlobName, Mem}
 use Rattle.section_manager.specs.declared.sealed.AppendFactory.{AppendFactory}
-use Rattle.section_manager.proofs.sections.CutLemmas.{same_number}
 use Rattle.segments.specs.FixedChecks.{ChecksMarker}
 use Rattle.segments.specs.FixedFloors.{Floors, IsRefused, KeepsBoundary}
 use Rattle.segments.specs.FixedLists.{Lists}
@@ -36,6 +35,7 @@ use Rattle.segments.specs.FixedPreflight.{ChecksFloors}
 use Rattle.segments.proofs.FixedFloorLemmas.{Checked, Marks, was_there, marker_refused, marker_codec, none_refused, not_damaged, not_coded}
 use Rattle.segments.proofs.FixedPassing.{error_back, opening_on, checked_on, checked_named, owing_cause, owing_coded}
 use Rattle.segments.proofs.FixedStages.{Stage, stage_read}
+use Rattle.blob_device.proofs.general.Numbers.{same_number}
 
 -- ---- the sections of which markers were gone over
 pub all_taken : (m : tree.BTreeMap ℕ ℕ) (keys : List ℕ) → keys ≡ keys_of m.entries → (s : ℕ) → IsSome (tree.get nat_cmp m s) → Contains keys s

@@ -2,7 +2,7 @@
 use Rattle.std.proofs.Common.{◌≡◌, ◌↔◌, inl, inr, ℕ, zero, suc, ◌+◌, ◌-◌, ◌*◌, ◌/◌, ◌<◌, ◌≤◌, eqb, cond, count_by, Bool, true, false, List, length, get_or, take, refl, sym, ◌∙◌, ap, subst, arith}
 use Rattle.std.specs.Prelude.{nat_eq}
 use Rattle.std.specs.List.{list_any}
-use Rattle.std.proofs.lemmas.Bool.{cases_eq, cases_lt, eq-eqb, eqb-true}
+use Rattle.std.proofs.lemmas.Bool.{cases_Bool, cases_eq, cases_lt, eq-eqb, eqb-true}
 use Rattle.std.proofs.lemmas.List.Sums.{count_by_more_yes, count_by-le-length, sum_by-take-le}
 use Rattle.std.proofs.Math.Nat.{mul-le-mul_right}
 use Rattle.sealed_pages.specs.Buffer.{Buffer, size_of, cached, is_cached, IsBacked}
@@ -10,9 +10,8 @@ use Rattle.sealed_pages.specs.Cached.{uncached, IsCachedOf}
 use Rattle.sealed_pages.specs.Reads.{IsCacheFor, IsHeld, IsCovered, IsWanted, touched, below, missing_pages}
 use Rattle.sealed_pages.proofs.memory.CacheLemmas.{found_page_has, uncached_most}
 use Rattle.sealed_pages.proofs.memory.HeldLemmas.{held_from, held_to, wanted_low}
-use Rattle.sealed_pages.proofs.memory.Holding.{bool_or, div_place}
-use Rattle.sealed_pages.proofs.slots.SlotLemmas.{times_next}
 use Rattle.segments.proofs.FixedReadLemmas.{touched_most, touched_none, touched_some}
+use Rattle.blob_device.proofs.general.Numbers.{div_place, times_next}
 
 eqb_none : (n : ℕ) → n ≡ 0 → eqb n 0 ≡ true
 eqb_none n none = eq-eqb n 0 none
@@ -88,7 +87,7 @@ module _ (u : Buffer) (size p m n : ℕ) (at : m ≡ p * size) (long : n ≡ siz
   -- an answer that tells whether the bytes are held
   pub told_held : p * size + size ≤ size_of u → (r : Bool) → (r ≡ true) ↔ IsHeld u m n → r ≡ eqb (missing_pages u (p * size) size) 0
   told_held fits true iff = sym (eqb_none (missing_pages u (p * size) size) (sym missing_same ∙ none_missing u m n pos (iff.0 refl)))
-  told_held fits false iff = elim (bool_or (eqb (missing_pages u (p * size) size) 0)) [
+  told_held fits false iff = elim (cases_Bool (eqb (missing_pages u (p * size) size) 0)) [
     | inl is ↦ absurd (cc (iff.1 (missing_held u m n pos (omega (arith, fits, at, long)) (missing_same ∙ none_eqb (missing_pages u (p * size) size) is))))
     | inr not_held ↦ sym not_held
   ]

@@ -21,10 +21,10 @@ use Rattle.section_manager.specs.Refusing.{HasFailed}
 use Rattle.section_manager.specs.SealedLaws.{all_settled}
 use Rattle.section_manager.specs.Sections.{Sections, section_key, key_of, IsHeld, IsOver}
 use Rattle.section_manager.specs.Setting.{Setting}
-use Rattle.section_manager.proofs.WalkLemmas.{none_or_value}
 use Rattle.segments.specs.FixedLists.{floor_in, size_held, section_size, section_bytes, IsJournal}
 use Rattle.segments.proofs.FixedWriteLemmas.{ArePages, journal_of}
 use Rattle.segments.proofs.FixedCutLemmas.{empty_sealed}
+use Rattle.blob_device.proofs.general.Options.{none_or_value}
 
 size_some : {S : Type 0} {gs : _} (o : Option (PageBlob S gs)) → 0 < size_held o → IsSome o
 size_some None pos = absurd (omega (arith, pos))

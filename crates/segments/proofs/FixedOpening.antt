@@ -1,9 +1,8 @@
 -- A replay of a fixed journal begins a section: the step that this is.
 use Rattle.std.specs.Prelude.{◌≡◌, ◌⊎◌, ◌↔◌, ℕ, ◌+◌, ◌-◌, ◌*◌, ◌/◌, ◌%◌, ◌^◌, ◌<◌, ◌≤◌, cond, Bool, true, false, List, [], length, IsTrue, IsSomeAnd, Option, None, Some, IsSome, Result, Ok, Err}
 use Rattle.std.proofs.Common.{inl, inr, refl, sym, ◌∙◌, ap, subst, arith, eqb}
-use Rattle.sealed_pages.proofs.memory.Holding.{bool_or}
 use Rattle.std.proofs.Math.Nat.{div-mul-le_self}
-use Rattle.std.proofs.lemmas.Bool.{cases_eq, eq-eqb, eqb-true}
+use Rattle.std.proofs.lemmas.Bool.{cases_Bool, cases_eq, eq-eqb, eqb-true}
 use Rattle.std.proofs.lemmas.Nat.{le-div}
 use Rattle.blob_device.specs.Disk.{Key, Blob, Disk}
 use Rattle.blob_device.specs.Opened.{OpenedList, reads_of}
@@ -32,19 +31,20 @@ use Rattle.segments.specs.FixedReplay.{Place, Walk, IsAhead, IsIn, IsReadWhole, 
 use Rattle.segments.specs.FixedStepping.{reads_left, way_of, sections_ahead, bytes_ahead, OnlySections, Touches, IsFlushed, BeginsOver, Steps}
 use Rattle.segments.proofs.FixedCounts.{count_here, count_ahead}
 use Rattle.segments.proofs.FixedEnding.{IsNext, next_after, next_from, ahead_from, next_back, fewer_ahead, nearer_begun}
-use Rattle.segments.proofs.FixedReading.{the_some, here}
+use Rattle.segments.proofs.FixedReading.{here}
 use Rattle.segments.proofs.FixedErrorSteps.{failed_other, failed_sound, failed_not_codec}
 use Rattle.segments.proofs.FixedOwed.{same_items}
 use Rattle.segments.proofs.FixedSteps.{Called, call_failed, call_passed}
-use Rattle.segments.proofs.FixedWalks.{IsBehind, IsReached, MayCut, MayFlush, MayFront, is_some, same_some, some_of, none_in, key_new, first_same, held_back, held_on, kept_other, later_one}
+use Rattle.segments.proofs.FixedWalks.{IsBehind, IsReached, MayCut, MayFlush, MayFront, key_new, first_same, held_back, held_on, kept_other, later_one}
 use Rattle.segments.proofs.FixedWalksOn.{IsKnownAgain, replaying_start, replaying_here, moments_of}
+use Rattle.blob_device.proofs.general.Options.{none_in, same_some, some_of, some_there, the_some}
 
 -- the start's section is given from the start on
 pub first_here : {F B : Type 0} (w : Walk F B) (s : ℕ) → s ≡ w.start_section → first_of w s ≡ w.start_position
 first_here w s is = ap (λ (o : Bool). cond o w.start_position 0) (eq-eqb s w.start_section is)
 
 first_there : {F B : Type 0} (w : Walk F B) (s : ℕ) → (s ≡ w.start_section → ⊥) → first_of w s ≡ 0
-first_there w s other = elim (bool_or (eqb s w.start_section)) [
+first_there w s other = elim (cases_Bool (eqb s w.start_section)) [
   | inl is ↦ absurd (other (eqb-true s w.start_section is))
   | inr not ↦ ap (λ (o : Bool). cond o w.start_position 0) not
 ]
@@ -90,7 +90,7 @@ module _ {F S : Type 0} {gs : _} (seal : List ℕ → ℕ) (size : ℕ) (g : buf
     numbers q h = was.over.opened_list.number q (inl h)
 
     small : s < 2 ^ 64
-    small = numbers s (is_some (w.journal.sections.held s) u held)
+    small = numbers s (some_there (w.journal.sections.held s) u held)
 
     next_new : IsNext s new.next_section
     next_new = subst (IsNext s) (sym only.next) next
@@ -99,7 +99,7 @@ module _ {F S : Type 0} {gs : _} (seal : List ℕ → ℕ) (size : ℕ) (g : buf
     start_before = (let first = the_some w.next_section ahead in let from = was.walk.from_start first.0 first.1 in omega (arith, from, first.2))
 
     reached : IsReached seal size s w
-    reached = record { held = is_some (w.journal.sections.held s) u held; near = inl ahead }
+    reached = record { held = some_there (w.journal.sections.held s) u held; near = inl ahead }
 
     ahead_back : (t : ℕ) → IsAhead new t → IsAhead w t
     ahead_back t h = ahead_from w.next_section s t (next_back s new.next_section next_new t h) ahead

@@ -21,10 +21,10 @@ use Rattle.section_manager.specs.declared.unopened.Unopened.TheVariants.{Section
 use Rattle.section_manager.proofs.InitLemmas.{settling_start}
 use Rattle.segments.specs.FixedLists.{Lists, floor_in, section_size}
 use Rattle.segments.specs.FixedOpens.{Opens}
-use Rattle.segments.proofs.FixedCutLemmas.{no_rest}
 use Rattle.segments.proofs.FixedOpenLemmas.{no_floor, above_ceiling, opened_cause, opened_journal, opened_bytes}
 use Rattle.segments.proofs.FixedWriteLemmas.{ArePages}
 use Rattle.sealed_pages.proofs.looking.Looking.{unchanged_start}
+use Rattle.blob_device.proofs.general.Numbers.{no_rest}
 
 none_of : {T : Type 0} (o : Option T) → (IsSome o → ⊥) → o ≡ None
 none_of None never = refl

@@ -1,13 +1,13 @@
 -- What a call of a fixed journal that fails passes on of the call below it.
 use Rattle.std.proofs.Common.{◌≡◌, ◌⊎◌, ◌↔◌, ◌≤◌, inl, inr, ℕ, List, Result, Ok, Err, sym, subst, OnErr, IfOk}
 use Rattle.std.specs.Result.{IsErr, IsErrOf}
-use Rattle.blob_device.proofs.Results.{err_with}
 use Rattle.section_manager.specs.declared.journal.Error.{Error}
 use Rattle.section_manager.specs.declared.journal.Error.TheVariants.{InvalidBlobName, Corruption, Codec, Mem}
 use Rattle.section_manager.specs.declared.journal.Damage.{Damage}
 use Rattle.value_codec.specs.declared.codec.Error as codec
 use Rattle.section_manager.specs.Refusing.{IsPruned, HasDamage, HasFailed}
 use Rattle.segments.proofs.FixedReading.{failed_since}
+use Rattle.blob_device.proofs.general.Results.{err_with}
 
 -- nothing is said of the value of a call that failed
 pub no_value : {T E : Type 0} (P : T → Type 0) (r : Result T E) → IsErr r → IfOk r P

@@ -10,7 +10,7 @@ use Rattle.sealed_pages.specs.declared.page_blob.PageBlob.{PageBlob}
 use Rattle.section_manager.specs.Sections.{Sections, key_of}
 use Rattle.section_manager.specs.declared.journal.Damage.{Damage}
 use Rattle.section_manager.specs.declared.journal.Error.TheVariants.{Corruption}
-use Rattle.section_manager.proofs.WalkLemmas.{has_value, some_same}
+use Rattle.blob_device.proofs.general.Options.{has_value, some_same}
 
 module _ {F S : Type 0} {gs : _} (seal : List ℕ → ℕ) (m : Sections F (PageBlob S gs)) (section size kept : ℕ) (u : PageBlob S gs) (held : m.held section ≡ Some u) (d : Disk)
     (key : pages.key_of (shown u) ≡ key_of m section) (is : kept ≡ min size (length (sealed_prefix seal u.page_size (d (pages.key_of (shown u))).content))) where

@@ -3,27 +3,20 @@ use Rattle.std.proofs.Common.{◌≡◌, inl, inr, ℕ, zero, suc, ◌+◌, ◌-
 use Rattle.std.specs.List.{Contains}
 use Rattle.std.specs.List.Sorted.{IsStrictlySortedBy}
 use Rattle.std.specs.Ordering.{nat_cmp}
-use Rattle.std.proofs.lemmas.Bool.{cases_eq, cases_lt}
+use Rattle.std.proofs.lemmas.Bool.{cases_Bool, cases_eq, cases_lt}
 use Rattle.std.proofs.lemmas.Bool.Decides.{nat_tests}
 use Rattle.std.proofs.lemmas.List.{get_or_default}
 use Rattle.std.proofs.lemmas.List.Sums.{count_by_more_yes, count_by_more_no, sum_by-take-le, sum_by_more, sum_by_more_le}
 use Rattle.std.proofs.lemmas.Map.Keys.{below_from_sorted}
 use Rattle.std.proofs.lemmas.Nat.{div_below}
-use Rattle.std.proofs.Math.Nat.{mul-le-mul_right, div-mul-le_self}
+use Rattle.std.proofs.Math.Nat.{mul-le-mul_right}
 use Rattle.blob_device.specs.Disk.{Key}
 use Rattle.blob_device.specs.Opened.{OpenedList}
 use Rattle.sealed_pages.specs.Entries.{ReadsAtMost}
 use Rattle.sealed_pages.specs.Reads.{IsShort, touched, below}
 use Rattle.sealed_pages.proofs.EntryLemmas.{reads_then}
-use Rattle.sealed_pages.proofs.memory.Holding.{bool_or, div_place, times_sum}
-use Rattle.sealed_pages.proofs.slots.SlotLemmas.{times_next}
 use Rattle.segments.specs.FixedItems.{item_at}
-
--- a whole item ends where the bytes do, or before
-pub item_within : (size n p : ℕ) → p < n / size → p * size + size ≤ n
-item_within size n p lt =
-    let le : p + 1 ≤ n / size = omega (arith, lt) in
-    omega (arith, times_next p size, mul-le-mul_right size le, div-mul-le_self n size)
+use Rattle.blob_device.proofs.general.Numbers.{div_place, times_sum}
 
 -- a read of as many bytes as the item at p has, from where it stands
 module _ (P first size p m n : ℕ) (at : m ≡ p * size) (long : n ≡ size) where
@@ -71,7 +64,7 @@ reads_one k n false a b idle has = subst (λ (o : OpenedList). ReadsAtMost (0 * 
 module _ (test : ℕ → Bool) (xs : List ℕ) (i : ℕ) (lt : i < length xs) where
   -- none of the first ones passes, and not the next
   pub none_next : count_by test (take (i + 1) xs) ≡ 0 → (count_by test (take i xs) ≡ 0) × (test (get_or xs i 0) ≡ false)
-  none_next none = elim (bool_or (test (get_or xs i 0))) [
+  none_next none = elim (cases_Bool (test (get_or xs i 0))) [
     | inl passes ↦ absurd (omega (arith, none, count_by_more_yes test xs i 0 lt passes))
     | inr fails ↦ (omega (arith, none, count_by_more_no test xs i 0 lt fails), fails)
   ]

@@ -23,7 +23,6 @@ use Rattle.sealed_pages.specs.SealedPrefix.{sealed_prefix, data_from}
 use Rattle.sealed_pages.specs.Unrecovered.{IsAdopted}
 use Rattle.sealed_pages.proofs.memory.Holding.{bytes_length}
 use Rattle.sealed_pages.proofs.looking.ReplayLemmas.{data_drop, covered_rest}
-use Rattle.sealed_pages.proofs.slots.SlotLemmas.{times_next}
 use Rattle.sealed_pages.proofs.cutting.Truncating.{rose_since}
 use Rattle.section_manager.specs.declared.buffer.SectionBuffer as buffer
 use Rattle.section_manager.specs.declared.journal.Error.{Error}
@@ -45,15 +44,12 @@ use Rattle.segments.proofs.FixedCounts.{count_here, count_apart, count_same}
 use Rattle.segments.proofs.FixedKept.{covered_on, covered_length, item_kept, prefix_data, flushed_data}
 use Rattle.segments.proofs.FixedEnding.{ahead_from}
 use Rattle.segments.proofs.FixedOwed.{same_items, same_or_cut}
-use Rattle.segments.proofs.FixedWalks.{IsBehind, IsReached, is_some, same_some, same_bytes, none_in, left_later}
+use Rattle.segments.proofs.FixedWalks.{IsBehind, IsReached, same_bytes, left_later}
 use Rattle.segments.proofs.FixedWalksOn.{replaying_start}
 use Rattle.segments.proofs.FixedStopping.{ended_back, ended_here}
 use Rattle.segments.proofs.FixedSteps.{Called, Answered, call_stopped, call_failed, call_ended, call_refused}
-
--- the value that has P
-pub the_some : {A : Type 0} {P : A → Type 0} → (o : Option A) → IsSomeAnd o P → (v : A) × (o ≡ Some v) × P v
-the_some None has = absurd has
-the_some (Some v) has = (v, refl, has)
+use Rattle.blob_device.proofs.general.Numbers.{times_next}
+use Rattle.blob_device.proofs.general.Options.{none_in, same_some, some_there, the_some}
 
 pub some_and : {A : Type 0} (P : A → Type 0) → (o : Option A) (v : A) → o ≡ Some v → P v → IsSomeAnd o P
 some_and {A = A} P o v is has = subst (λ (x : Option A). IsSomeAnd x P) (sym is) has
@@ -225,7 +221,7 @@ module _ {F S : Type 0} {gs : _} (seal : List ℕ → ℕ) (size : ℕ) (g : buf
           omega (arith, there, count_here (standing w on) on u.0 refl u.1, count_here (standing w r) r u.0 refl u.1))
       | inr other ↦
           let apart : key_of w.journal.sections t ≢ r.reader.key = λ is. keys_differ w.journal.sections.partition t r.section (was.over.opened_list.number t (inl held))
-          (was.over.opened_list.number r.section (inl (is_some (w.journal.sections.held r.section) (here r before (disk a) was).0 (here r before (disk a) was).1))) other (is ∙ key_is) in
+          (was.over.opened_list.number r.section (inl (some_there (w.journal.sections.held r.section) (here r before (disk a) was).0 (here r before (disk a) was).1))) other (is ∙ key_is) in
           omega (arith, ap reads_of (reads.others (key_of w.journal.sections t) apart), count_apart w r on t (λ is. other (sym is)) (λ is. other (sym is)))
     ]
 
@@ -312,7 +308,7 @@ module _ {F S : Type 0} {gs : _} (seal : List ℕ → ℕ) (size : ℕ) (g : buf
           (λ x is q. subst (λ (d : Disk). Replaying seal size (standing w r) (disk a) q (d q)) (sym is) (replaying_start seal size (standing w r) (disk a) q)) (stood t))
           (always_weaker b c (Each (Replaying seal size (standing w more_at) (disk b))) (Each (Replaying seal size (standing w r) (disk a)))
           (λ x each q. replaying_read (disk a) q (x q) (subst (λ (d : Disk). Replaying seal size (standing w more_at) d q (x q)) (stood_disk t) (each q))) (step.moments t));
-      entries = λ q never. step.entries q (λ k. never (k.0, k.1, k.2)) ∙ entries q (λ is. never (r.section, (is_some (w.journal.sections.held r.section) (here r before (disk a) was).0 (here r before (disk a) was).1, inr refl), is));
+      entries = λ q never. step.entries q (λ k. never (k.0, k.1, k.2)) ∙ entries q (λ is. never (r.section, (some_there (w.journal.sections.held r.section) (here r before (disk a) was).0 (here r before (disk a) was).1, inr refl), is));
       once = once_read result unread step.once;
       faults = omega (arith, le, step.faults);
       cause = cause_read result step.cause;
@@ -368,10 +364,10 @@ module _ {F S : Type 0} {gs : _} (seal : List ℕ → ℕ) (size : ℕ) (g : buf
     number_here = was.over.opened_list.number r.section (inl held_here)
       where
         held_here : IsHeld w.journal.sections r.section
-        held_here = is_some (w.journal.sections.held r.section) (here r opened (disk now) was).0 (here r opened (disk now) was).1
+        held_here = some_there (w.journal.sections.held r.section) (here r opened (disk now) was).0 (here r opened (disk now) was).1
 
     pub reached_here : IsReached seal size r.section (standing w r)
-    reached_here = record { held = is_some (w.journal.sections.held r.section) (here r opened (disk now) was).0 (here r opened (disk now) was).1; near = inr refl }
+    reached_here = record { held = some_there (w.journal.sections.held r.section) (here r opened (disk now) was).0 (here r opened (disk now) was).1; near = inr refl }
 
     pub behind_here : (new : Walk F (PageBlob S gs)) → new.next_section ≡ w.next_section → IsBehind seal size r.section (standing w r) new
     behind_here new next = record {

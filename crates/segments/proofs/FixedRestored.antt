@@ -14,7 +14,6 @@ use Rattle.section_manager.specs.Sections.{key_of, IsCut}
 use Rattle.section_manager.specs.Setting.{Setting}
 use Rattle.section_manager.specs.declared.buffer.SectionBuffer as buffer
 use Rattle.section_manager.specs.declared.journal.Error.{Error}
-use Rattle.section_manager.proofs.WalkLemmas.{value_of, some_same, none_or_value}
 use Rattle.segments.specs.FixedBounds.{IsTailCut, CutsTail}
 use Rattle.segments.specs.FixedCheckpoint.{IsReady, Restores, Finishes}
 use Rattle.segments.specs.FixedLists.{Lists, section_size, size_held, IsJournal}
@@ -22,6 +21,7 @@ use Rattle.segments.specs.declared.fixed.preflighting.Target.{Target}
 use Rattle.segments.proofs.FixedCutLemmas.{empty_sealed}
 use Rattle.segments.proofs.FixedPassing.{no_error}
 use Rattle.segments.proofs.FixedWriteLemmas.{ArePages, journal_of}
+use Rattle.blob_device.proofs.general.Options.{none_or_value, some_same, value_of}
 
 module _ {F S : Type 0} {gs : _} (g : buffer.Ghosts (PageBlob S gs)) (gives : F → Setting) (seal : List ℕ → ℕ) (size : ℕ) (told : Type 0) (pages : ArePages g seal)
     (j : Lists F (PageBlob S gs)) (t : Target) (before opened : OpenedList) (from d : Disk) (ready : IsReady g gives seal size told j t before from)

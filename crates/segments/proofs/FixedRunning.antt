@@ -28,9 +28,10 @@ use Rattle.segments.specs.FixedStepping.{failing, way_of, reads_left, ReadsOnce,
 use Rattle.segments.proofs.FixedStopping.{ended_back, ended_failing}
 use Rattle.segments.proofs.FixedOwed.{same_items, items_then, same_or_cut, cut_then}
 use Rattle.segments.proofs.FixedReading.{not_read_since, failed_since}
-use Rattle.segments.proofs.FixedWalks.{is_some, same_some, some_of, same_bytes, none_in, in_section}
+use Rattle.segments.proofs.FixedWalks.{same_bytes, in_section}
 use Rattle.segments.proofs.FixedWriteLemmas.{settled_idle}
 use Rattle.segments.proofs.FixedWalksOn.{replaying_start}
+use Rattle.blob_device.proofs.general.Options.{none_in, same_some, some_of, some_there}
 
 module _ {F S : Type 0} {gs : _} (seal : List ℕ → ℕ) (size : ℕ) (g : buffer.Ghosts (PageBlob S gs)) (gives : F → Setting) {told : Type 0} {w v : Walk F (PageBlob S gs)} where
   -- the same replay, as it is written another way
@@ -153,7 +154,7 @@ module _ {F S : Type 0} {gs : _} (seal : List ℕ → ℕ) (size : ℕ) (g : buf
 
       -- the section's buffer after the first steps
       between : (s : ℕ) (u : PageBlob S gs) → old.journal.sections.held s ≡ Some u → (x : PageBlob S gs) × (now.journal.sections.held s ≡ Some x)
-      between s u held = some_of (now.journal.sections.held s) ((run.goes.held s).1 (is_some (old.journal.sections.held s) u held))
+      between s u held = some_of (now.journal.sections.held s) ((run.goes.held s).1 (some_there (old.journal.sections.held s) u held))
 
       pub floors_after : KeepsFloors old new
       floors_after s u v held now_held =
@@ -174,7 +175,7 @@ module _ {F S : Type 0} {gs : _} (seal : List ℕ → ℕ) (size : ℕ) (g : buf
 
       pub bytes_after : KeepsBytes told old new (disk a) (disk c)
       bytes_after s u v held now_held free =
-          let x = some_of (now.journal.sections.held s) ((run.goes.held s).1 (is_some (old.journal.sections.held s) u held)) in
+          let x = some_of (now.journal.sections.held s) ((run.goes.held s).1 (some_there (old.journal.sections.held s) u held)) in
           let first = run.bytes s u x.0 held x.1 free in
           let more = step.bytes s x.0 v x.1 now_held (run.same.unrecovered s ∙ free) in
           let key : key_of now.journal.sections s ≡ key_of old.journal.sections s = ap (λ (p : List ℕ). section_key p s) run.same.bounds.place.partition in

@@ -15,9 +15,9 @@ use Rattle.section_manager.specs.declared.buffer.SectionBuffer as buffer
 use Rattle.section_manager.specs.Sealed.{Stands}
 use Rattle.section_manager.specs.Setting.{Setting}
 use Rattle.section_manager.specs.Sections.{Sections, key_of, IsHeld, HasOpened}
-use Rattle.section_manager.proofs.WalkLemmas.{value_of, some_same}
 use Rattle.segments.specs.FixedLists.{Lists, section_bytes, section_size, IsProven, IsJournal}
 use Rattle.segments.specs.FixedReading.{IsDamaged}
+use Rattle.blob_device.proofs.general.Options.{some_same, value_of}
 
 module _ {F S : Type 0} {gs : _} (m : Sections F (PageBlob S gs)) (s : ℕ) (u : PageBlob S gs) (held : m.held s ≡ Some u) where
   pub size_here : section_size m s ≡ size_of (shown u)

@@ -23,8 +23,9 @@ use Rattle.segments.specs.FixedStepping.{failing, OnlySections, Touches, IsCutBa
 use Rattle.segments.proofs.FixedEnding.{ahead_from}
 use Rattle.segments.proofs.FixedKept.{sealed_flushed}
 use Rattle.segments.proofs.FixedWriteLemmas.{bytes_here}
-use Rattle.segments.proofs.FixedWalks.{IsBehind, OnlyOne, blob_other, key_new, none_in}
+use Rattle.segments.proofs.FixedWalks.{IsBehind, OnlyOne, blob_other, key_new}
 use Rattle.segments.proofs.FixedWalksOn.{IsKnownAgain, walk_broken, walk_on}
+use Rattle.blob_device.proofs.general.Options.{none_in}
 
 -- as many bytes, by another name
 pub cut_to : {S told : Type 0} {gs : _} {seal : List ℕ → ℕ} {u v : PageBlob S gs} {x y : Blob} {n m : ℕ} → n ≡ m → IsCutBack seal told u x v y n → IsCutBack seal told u x v y m

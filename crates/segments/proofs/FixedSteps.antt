@@ -25,8 +25,9 @@ use Rattle.segments.specs.FixedStepping.{word, sections_ahead, bytes_ahead, way_
 use Rattle.segments.proofs.FixedCounts.{count_other, count_over}
 use Rattle.segments.proofs.FixedKept.{short_item}
 use Rattle.segments.proofs.FixedOwed.{same_items, same_or_cut}
-use Rattle.segments.proofs.FixedWalks.{OnlyOne, IsBehind, IsReached, is_some, same_some, same_bytes, none_in, key_new, blob_other, held_back, held_on, kept_other, not_ahead, not_near, left_first, left_later, left_all}
+use Rattle.segments.proofs.FixedWalks.{OnlyOne, IsBehind, IsReached, same_bytes, key_new, blob_other, held_back, held_on, kept_other, not_ahead, not_near, left_first, left_later, left_all}
 use Rattle.segments.proofs.FixedWalksOn.{walk_broken, IsKnownAgain, walk_on, walk_refused}
+use Rattle.blob_device.proofs.general.Options.{none_in, same_some, some_there}
 
 -- an error of a reading is none of a floor
 pub not_below : {T : Type 0} (x : Error) (few many : ℕ) → HasNotRead {T = T} (Err x) few many → (y : Damage) → x ≡ Corruption y → ⊥
@@ -78,7 +79,7 @@ module _ {F S V : Type 0} {gs : _} (seal : List ℕ → ℕ) (size : ℕ) (g : b
     items_by t here = each_of (λ q. (u : PageBlob S gs) → old.journal.sections.held q ≡ Some u → IsTrue (old.journal.unrecovered q) → SameItems seal u.page_size size (disk a (key_of old.journal.sections q)) (disk b (key_of old.journal.sections q)))
         here
         (λ q apart u was owed. same_items seal u.page_size size (disk a (key_of old.journal.sections q)) (disk b (key_of old.journal.sections q))
-        (call.one.blobs t (key_of old.journal.sections q) (keys_differ old.journal.sections.partition q s (call.one.numbers q (is_some (old.journal.sections.held q) u was)) call.one.small apart)))
+        (call.one.blobs t (key_of old.journal.sections q) (keys_differ old.journal.sections.partition q s (call.one.numbers q (some_there (old.journal.sections.held q) u was)) call.one.small apart)))
 
     -- nothing of it or before is left
     ended_at : new.place ≡ None → told → new.ended ≡ old.ended → IsEndedAt seal size old new (disk a) (disk b) s
@@ -143,7 +144,7 @@ module _ {F S V : Type 0} {gs : _} (seal : List ℕ → ℕ) (size : ℕ) (g : b
               ]
           | inr apart ↦
               let held_old : old.journal.sections.held q ≡ Some u = sym (call.one.others q apart).held ∙ held in
-              (held_old, λ t. blob_other seal size s old new (disk a) (disk b) call.one t q apart (is_some (old.journal.sections.held q) u held_old))
+              (held_old, λ t. blob_other seal size s old new (disk a) (disk b) call.one t q apart (some_there (old.journal.sections.held q) u held_old))
         ]
 
     -- It says nothing of a floor.
@@ -176,11 +177,11 @@ module _ {F S V : Type 0} {gs : _} (seal : List ℕ → ℕ) (size : ℕ) (g : b
             subst (λ (k : ℕ). HasSameBytes told u (disk a (key_of old.journal.sections k)) x (disk b (key_of old.journal.sections k))) (sym at)
             (subst (λ (y : PageBlob S gs). HasSameBytes told u (disk a (key_of old.journal.sections s)) y (disk b (key_of old.journal.sections s))) (sym same) there)
         | inr other ↦ same_bytes told u x (disk a (key_of old.journal.sections q)) (disk b (key_of old.journal.sections q)) (same_some (old.journal.sections.held q) u x was (sym (call.one.others q other).held ∙ now))
-            (λ t. call.one.blobs t (key_of old.journal.sections q) (keys_differ old.journal.sections.partition q s (call.one.numbers q (is_some (old.journal.sections.held q) u was)) call.one.small other))
+            (λ t. call.one.blobs t (key_of old.journal.sections q) (keys_differ old.journal.sections.partition q s (call.one.numbers q (some_there (old.journal.sections.held q) u was)) call.one.small other))
       ]
 
       held_new : IsHeld new.journal.sections s
-      held_new = is_some (new.journal.sections.held s) v answer.again.held
+      held_new = some_there (new.journal.sections.held s) v answer.again.held
 
       keeps_floors : KeepsFloors old new
       keeps_floors = each_of (λ q. (u x : PageBlob S gs) → old.journal.sections.held q ≡ Some u → new.journal.sections.held q ≡ Some x → IsSameOrCut (old.journal.floor_of q) u x)
@@ -199,7 +200,7 @@ module _ {F S V : Type 0} {gs : _} (seal : List ℕ → ℕ) (size : ℕ) (g : b
         failed = answer.failed;
         ended = answer.ended;
         held = λ t. elim (cases_eq t s) [
-          | inl at ↦ (λ h. subst (IsHeld old.journal.sections) (sym at) call.reached.held, λ h. subst (IsHeld new.journal.sections) (sym at) (is_some (new.journal.sections.held s) v answer.again.held))
+          | inl at ↦ (λ h. subst (IsHeld old.journal.sections) (sym at) call.reached.held, λ h. subst (IsHeld new.journal.sections) (sym at) (some_there (new.journal.sections.held s) v answer.again.held))
           | inr apart ↦ (held_back seal size s old new (disk a) (disk b) call.one t apart, held_on seal size s old new (disk a) (disk b) call.one t apart)
         ];
         known = each_of (λ t. new.journal.sections.unopened t ≡ old.journal.sections.unopened t) (call.over.opened_list.apart s held_new ∙ sym apart_old) (λ t apart. (call.one.others t apart).unopened);

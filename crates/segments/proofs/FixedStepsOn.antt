@@ -6,14 +6,12 @@ use Rattle.std.proofs.lemmas.Nat.{mul-le}
 use Rattle.blob_device.specs.Disk.{Blob}
 use Rattle.blob_device.specs.Timeline.{disk}
 use Rattle.blob_device.specs.declared.device.Device as device
-use Rattle.blob_device.proofs.Results.{on_err}
 use Rattle.sealed_pages.specs.Buffer.{size_of}
 use Rattle.sealed_pages.specs.Readers.{next_of}
 use Rattle.sealed_pages.specs.Shown.{shown}
 use Rattle.sealed_pages.specs.Unrecovered.{IsAdopted}
 use Rattle.sealed_pages.specs.declared.page_blob.PageBlob.{PageBlob}
 use Rattle.sealed_pages.proofs.memory.Holding.{fit_size}
-use Rattle.sealed_pages.proofs.slots.SlotLemmas.{times_next}
 use Rattle.value_codec.specs.declared.codec.Error as codec
 use Rattle.section_manager.specs.Setting.{Setting}
 use Rattle.section_manager.specs.declared.buffer.SectionBuffer as buffer
@@ -27,7 +25,9 @@ use Rattle.segments.proofs.FixedFills.{back, there}
 use Rattle.segments.proofs.FixedGoing.{going_filled, hand_filled, last_filled, stands_filled, step_filled, step_stopped}
 use Rattle.segments.proofs.FixedReading.{here, item_steps}
 use Rattle.segments.proofs.FixedRunning.{steps_same}
-use Rattle.segments.proofs.FixedWalks.{some_of}
+use Rattle.blob_device.proofs.general.Numbers.{times_next}
+use Rattle.blob_device.proofs.general.Options.{some_of}
+use Rattle.blob_device.proofs.general.Results.{on_err}
 
 place_small : (p size n : ℕ) → 1 ≤ size → p * size + size ≤ n → n < 2 ^ 64 → p + 1 < 2 ^ 64
 place_small p size n pos fits small = omega (arith, times_next p size, mul-le (p + 1) 1 (p + 1) size (omega arith) pos, fits, small)

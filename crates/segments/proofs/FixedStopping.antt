@@ -7,7 +7,7 @@ use Rattle.sealed_pages.specs.declared.page_blob.PageBlob.{PageBlob}
 use Rattle.segments.specs.FixedReplay.{Place, Walk, IsAhead, IsLeft, IsEndedAt}
 use Rattle.segments.specs.FixedStepping.{standing, failing}
 use Rattle.segments.proofs.FixedEnding.{ahead_from}
-use Rattle.segments.proofs.FixedWalks.{none_in}
+use Rattle.blob_device.proofs.general.Options.{none_in}
 
 module _ {F S : Type 0} {gs : _} (seal : List ℕ → ℕ) (size : ℕ) where
   -- what was left before is what is left where it began

@@ -19,13 +19,13 @@ use Rattle.section_manager.specs.Sections.{key_of, IsKnown, IsKeyOf, IsGone, IsS
 use Rattle.section_manager.specs.Setting.{Setting}
 use Rattle.section_manager.specs.declared.buffer.SectionBuffer as buffer
 use Rattle.section_manager.specs.declared.journal.Error.{Error}
-use Rattle.section_manager.proofs.WalkLemmas.{value_of, has_value, some_same, none_or_value}
 use Rattle.segments.specs.FixedBounds.{CuttingTail, CutsTail}
 use Rattle.segments.specs.FixedLists.{Lists, IsJournal}
 use Rattle.segments.proofs.FixedCutLemmas.{settled_front}
 use Rattle.segments.proofs.FixedRemoveLemmas.{same_number}
 use Rattle.segments.proofs.FixedSections.{is_held}
 use Rattle.segments.proofs.FixedWriteLemmas.{ArePages, IsFine, fine_of, journal_of, leaves_sealed, leaves_front, proven_back}
+use Rattle.blob_device.proofs.general.Options.{has_value, none_or_value, some_same, value_of}
 
 module _ {F S : Type 0} {gs : _} (seal : List ℕ → ℕ) (size : ℕ) (told : Type 0) (g : buffer.Ghosts (PageBlob S gs)) (pages : ArePages g seal) (gives : F → Setting)
     (j : Lists F (PageBlob S gs)) (old : OpenedList) (a b : Timeline) (journal : IsJournal g gives seal size told j old (disk a)) (s n : ℕ) where

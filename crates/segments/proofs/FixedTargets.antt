@@ -20,15 +20,15 @@ use Rattle.section_manager.specs.declared.buffer.SectionBuffer as buffer
 use Rattle.section_manager.specs.declared.journal.Damage.{Damage}
 use Rattle.section_manager.specs.declared.journal.Error.{Error}
 use Rattle.section_manager.specs.declared.journal.Error.TheVariants.{Corruption, Mem}
-use Rattle.section_manager.proofs.WalkLemmas.{value_of, has_value, none_or_value}
 use Rattle.segments.specs.FixedCheckpoint.{boundary_at, IsUnder, IsRefused, IsPassed, IsShown, HasCome, Looks}
 use Rattle.segments.specs.FixedFloors.{Floors, AreAdopted}
 use Rattle.segments.specs.declared.fixed.preflighting.Target.{Target}
 use Rattle.segments.proofs.FixedChecking.{come_add, come_one, Answers, boundary_own, passes_below, looks_one}
-use Rattle.segments.proofs.FixedCutLemmas.{no_rest}
 use Rattle.segments.proofs.FixedPassing.{no_error, failed_on}
 use Rattle.segments.proofs.FixedReading.{failed_since}
 use Rattle.segments.proofs.FixedSections.{opened_read}
+use Rattle.blob_device.proofs.general.Numbers.{no_rest}
+use Rattle.blob_device.proofs.general.Options.{has_value, none_or_value, value_of}
 
 module _ {A D F S T : Type 0} {gs : _} (seal : List ℕ → ℕ) (P size : ℕ) (at bytes : ℕ) (spelling : A → List ℕ) (accepted : A → Unit {0} → Type 0)
     (refusal : List ℕ → Unit {0} → Option codec.Error) (dev : device.Ghosts D) (g : buffer.Ghosts (PageBlob S gs)) (gives : F → Setting) (m : Sections F (PageBlob S gs))

@@ -12,20 +12,7 @@ use Rattle.sealed_pages.specs.Unrecovered.{IsUnrecovered}
 use Rattle.section_manager.specs.Sections.{section_key, key_of, IsHeld, IsKeyOf, IsSame}
 use Rattle.section_manager.proofs.sections.KeyLemmas.{keys_differ}
 use Rattle.segments.specs.FixedReplay.{Place, Walk, IsAhead, IsIn, IsReadWhole, IsLeft, first_of, kept_of, kept_bytes, SameWalk, HasSameBytes, StaysStill, Replaying}
-
-pub some_of : {A : Type 0} → (o : Option A) → IsSome o → (v : A) × (o ≡ Some v)
-some_of None has = absurd (cc has)
-some_of (Some v) has = (v, refl)
-
-pub is_some : {A : Type 0} → (o : Option A) (v : A) → o ≡ Some v → IsSome o
-is_some o v is = subst IsSome (sym is) refl
-
-pub same_some : {A : Type 0} → (o : Option A) (u v : A) → o ≡ Some u → o ≡ Some v → v ≡ u
-same_some o u v is also = cc (is, also)
-
-pub none_in : {A : Type 0} → (o : Option A) (P : A → Type 0) → o ≡ None → IsSomeAnd o P → ⊥
-none_in None P is has = has
-none_in (Some v) P is has = cc is
+use Rattle.blob_device.proofs.general.Options.{none_in, some_there}
 
 -- where it stands in a section at most at item q, it stands in the section
 pub in_section : (o : Option Place) (t q : ℕ) → IsSomeAnd o (λ r. (r.section ≡ t) × (r.position ≤ q)) → IsSomeAnd o (λ r. r.section ≡ t)
@@ -99,7 +86,7 @@ module _ {F S : Type 0} {gs : _} (seal : List ℕ → ℕ) (size : ℕ) where
             ap (λ (h : Option (PageBlob S gs)). kept_of seal (new.journal.unrecovered q) h (e (key_of new.journal.sections q)).content) ((one.others q other).held ∙ is)
             ∙ sym (ap (λ (h : Option (PageBlob S gs)). kept_of seal (old.journal.unrecovered q) h (d (key_of old.journal.sections q)).content) is)
         go (Some u) is =
-            let there = blob_other t q other (is_some (old.journal.sections.held q) u is) in
+            let there = blob_other t q other (some_there (old.journal.sections.held q) u is) in
             λ i. kept_of seal (one.same.unrecovered q i) ((one.others q other).held i) (there i).content
 
     pub reads_back : (t : ℕ) → IsReadWhole new t → IsReadWhole old t
@@ -203,7 +190,7 @@ module _ {F S : Type 0} {gs : _} (seal : List ℕ → ℕ) (size : ℕ) where
               subst (λ (k : Key). May v (e k) b) key (may s v held (one.same.unrecovered s ∙ free_s) (subst (λ (k : Key). Is v (e k)) (sym key) has.0) (key ∙ sym (key_new s))) in
               subst (λ (k : Key). May u (d k) b) (sym key) (has.1 b after)
           | inr other ↦
-              let same : e q ≡ d q = ap e here ∙ sym (ap e (key_new t)) ∙ blob_other tells t other (is_some (old.journal.sections.held t) u is) ∙ sym (ap d here) in
+              let same : e q ≡ d q = ap e here ∙ sym (ap e (key_new t)) ∙ blob_other tells t other (some_there (old.journal.sections.held t) u is) ∙ sym (ap d here) in
               subst (λ (x : Blob). May u x b) same (may t u ((one.others t other).held ∙ is) (one.same.unrecovered t ∙ free) (subst (Is u) (sym same) sound) (here ∙ sym (key_new t)))
         ]
 
@@ -217,7 +204,7 @@ module _ {F S : Type 0} {gs : _} (seal : List ℕ → ℕ) (size : ℕ) where
               (subst (λ (k : Key). MayCut seal size v (new.journal.floor_of s) (e k) b) key (rep.cut s v held (subst IsTrue (sym (one.same.unrecovered s)) owed_s) (key ∙ sym (key_new s)))) in
               subst (λ (k : ℕ). MayCut seal size u (old.journal.floor_of k) (d q) b) (sym at) (subst (λ (k : Key). MayCut seal size u (old.journal.floor_of s) (d k) b) (sym key) (cuts u (subst (λ (k : ℕ). old.journal.sections.held k ≡ Some u) at is) owed_s b after))
           | inr other ↦
-              let same : e q ≡ d q = ap e here ∙ sym (ap e (key_new t)) ∙ blob_other tells t other (is_some (old.journal.sections.held t) u is) ∙ sym (ap d here) in
+              let same : e q ≡ d q = ap e here ∙ sym (ap e (key_new t)) ∙ blob_other tells t other (some_there (old.journal.sections.held t) u is) ∙ sym (ap d here) in
               subst (λ (n : ℕ). MayCut seal size u n (d q) b) (one.same.floors t) (subst (λ (x : Blob). MayCut seal size u (new.journal.floor_of t) x b) same
               (rep.cut t u ((one.others t other).held ∙ is) (subst IsTrue (sym (one.same.unrecovered t)) owed) (here ∙ sym (key_new t))))
         ]
@@ -233,7 +220,7 @@ module _ {F S : Type 0} {gs : _} (seal : List ℕ → ℕ) (size : ℕ) where
               subst (λ (o : Bool). StaysStill seal size o v (e q)) (sym (one.same.unrecovered s)) (subst (λ (k : Key). StaysStill seal size (old.journal.unrecovered s) v (e k)) (sym key) now.0) in
               rep.still s v held rest_v (key ∙ sym (key_new s)) ∙ ap e key ∙ now.1 ∙ sym (ap d key)
           | inr other ↦
-              let same : e q ≡ d q = ap e here ∙ sym (ap e (key_new t)) ∙ blob_other tells t other (is_some (old.journal.sections.held t) u is) ∙ sym (ap d here) in
+              let same : e q ≡ d q = ap e here ∙ sym (ap e (key_new t)) ∙ blob_other tells t other (some_there (old.journal.sections.held t) u is) ∙ sym (ap d here) in
               let rest_new : StaysStill seal size (new.journal.unrecovered t) u (e q) =
               subst (λ (x : Blob). StaysStill seal size (new.journal.unrecovered t) u x) (sym same) (subst (λ (o : Bool). StaysStill seal size o u (d q)) (sym (one.same.unrecovered t)) rest) in
               rep.still t u ((one.others t other).held ∙ is) rest_new (here ∙ sym (key_new t)) ∙ same

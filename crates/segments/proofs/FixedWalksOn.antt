@@ -21,8 +21,9 @@ use Rattle.section_manager.proofs.sections.KeyLemmas.{key_injective}
 use Rattle.segments.specs.FixedLists.{IsProven}
 use Rattle.segments.specs.FixedReplay.{Place, Walk, IsAhead, IsIn, IsReadWhole, SameWalk, StandsIn, ReadsIn, IsGoneOver, HasWalk, WalksOver, IsWalk, StaysStill, Replaying}
 use Rattle.segments.specs.FixedStepping.{failing}
-use Rattle.segments.proofs.FixedWalks.{OnlyOne, IsBehind, IsReached, MayCut, MayFlush, MayFront, is_some, same_some, none_in, blob_other, held_on, reads_back}
+use Rattle.segments.proofs.FixedWalks.{OnlyOne, IsBehind, IsReached, MayCut, MayFlush, MayFront, blob_other, held_on, reads_back}
 use Rattle.segments.proofs.FixedWriteLemmas.{proven_back}
+use Rattle.blob_device.proofs.general.Options.{none_in, same_some, some_there}
 
 module _ {F S : Type 0} {gs : _} (seal : List ℕ → ℕ) (size : ℕ) where
   module _ (old : Walk F (PageBlob S gs)) (d : Disk) where
@@ -59,7 +60,7 @@ module _ {F S : Type 0} {gs : _} (seal : List ℕ → ℕ) (size : ℕ) where
       }
         where
           number : (t : ℕ) (u : PageBlob S gs) → old.journal.sections.held t ≡ Some u → key_of old.journal.sections s ≡ key_of old.journal.sections t → t ≡ s
-          number t u is here = sym (key_injective old.journal.sections.partition s t small (numbers t (is_some (old.journal.sections.held t) u is)) here)
+          number t u is here = sym (key_injective old.journal.sections.partition s t small (numbers t (some_there (old.journal.sections.held t) u is)) here)
 
       pub moments_of : (a b : Timeline) (Q : Blob → Type 0) → d ≡ disk a → Always a b (OnlyAt (key_of old.journal.sections s) (disk a) Q)
           → ((x : Blob) → Q x → Replaying seal size old d (key_of old.journal.sections s) x) → Always a b (Each (Replaying seal size old d))
@@ -142,13 +143,13 @@ module _ {F S : Type 0} {gs : _} (seal : List ℕ → ℕ) (size : ℕ) where
       start ahead u held = elim (cases_eq new.start_section s) [
         | inl at ↦ absurd (again.not_ahead (subst (IsAhead new) at ahead))
         | inr other ↦
-            let was_ahead : IsAhead old old.start_section = subst (IsAhead old) one.same.section ((behind.ahead new.start_section (small_of new.start_section (is_some (new.journal.sections.held new.start_section) u held))).0 ahead).0 in
+            let was_ahead : IsAhead old old.start_section = subst (IsAhead old) one.same.section ((behind.ahead new.start_section (small_of new.start_section (some_there (new.journal.sections.held new.start_section) u held))).0 ahead).0 in
             let was_held : old.journal.sections.held old.start_section ≡ Some u = subst (λ (k : ℕ). old.journal.sections.held k ≡ Some u) one.same.section (sym (one.others new.start_section other).held ∙ held) in
             omega (arith, was.walk.start_within was_ahead u was_held, ap (λ (n : ℕ). n * size) one.same.position)
       ]
 
       blob_same : told → (q : ℕ) (u : PageBlob S gs) → q ≢ s → old.journal.sections.held q ≡ Some u → e (key_of new.journal.sections q) ≡ d (key_of old.journal.sections q)
-      blob_same tells q u other held = blob_other seal size s old new d e one tells q other (is_some (old.journal.sections.held q) u held)
+      blob_same tells q u other held = blob_other seal size s old new d e one tells q other (some_there (old.journal.sections.held q) u held)
 
       from_v : (q : ℕ) (u : PageBlob S gs) → q ≡ s → new.journal.sections.held q ≡ Some u → IsSealed seal (shown v) (e (key_of new.journal.sections s)) × (size_of (shown v) % size ≡ 0)
           → IsSealed seal (shown u) (e (key_of new.journal.sections q)) × (size_of (shown u) % size ≡ 0)
@@ -210,7 +211,7 @@ module _ {F S : Type 0} {gs : _} (seal : List ℕ → ℕ) (size : ℕ) where
         where
           holds : new.failed ≡ false → (q : ℕ) → IsTrue (new.journal.unrecovered q) → IsHeld new.journal.sections q
           holds fine q owed = elim (cases_eq q s) [
-            | inl at ↦ subst (IsHeld new.journal.sections) (sym at) (is_some (new.journal.sections.held s) v again.held)
+            | inl at ↦ subst (IsHeld new.journal.sections) (sym at) (some_there (new.journal.sections.held s) v again.held)
             | inr other ↦ held_on seal size s old new d e one q other ((was.walk.owes_held (sym failed ∙ fine)).held q (subst IsTrue (one.same.unrecovered q) owed))
           ]
 
@@ -219,7 +220,7 @@ module _ {F S : Type 0} {gs : _} (seal : List ℕ → ℕ) (size : ℕ) where
             | inl at ↦ omega (arith, start_v fine (λ is. over_it.not_in (subst (IsIn new) (sym at) is)) (sym at), ap (λ (x : PageBlob S gs). size_of (shown x)) (same_v new.start_section u at held))
             | inr other ↦
                 let held_old : old.journal.sections.held new.start_section ≡ Some u = sym (one.others new.start_section other).held ∙ held in
-                let over_old : IsGoneOver old old.start_section = subst (IsGoneOver old) one.same.section (gone_old new.start_section other (is_some (old.journal.sections.held new.start_section) u held_old) over_it) in
+                let over_old : IsGoneOver old old.start_section = subst (IsGoneOver old) one.same.section (gone_old new.start_section other (some_there (old.journal.sections.held new.start_section) u held_old) over_it) in
                 let was_held : old.journal.sections.held old.start_section ≡ Some u = subst (λ (k : ℕ). old.journal.sections.held k ≡ Some u) one.same.section held_old in
                 omega (arith, was.walk.start_kept (sym failed ∙ fine) over_old u was_held, ap (λ (n : ℕ). n * size) one.same.position)
           ]
@@ -252,7 +253,7 @@ module _ {F S : Type 0} {gs : _} (seal : List ℕ → ℕ) (size : ℕ) where
                 | inl at ↦ from_v q u at held (again.gone_over tells (λ is. over_it.not_in (subst (IsIn new) (sym at) is)) (subst (IsReadWhole old) at (reads_back seal size s old new d e one q read)))
                 | inr other ↦
                     let held_old : old.journal.sections.held q ≡ Some u = sym (one.others q other).held ∙ held in
-                    let is_held : IsHeld old.journal.sections q = is_some (old.journal.sections.held q) u held_old in
+                    let is_held : IsHeld old.journal.sections q = some_there (old.journal.sections.held q) u held_old in
                     let over_old : IsGoneOver old q = gone_old q other is_held over_it in
                     let has = (was.disk tells).gone_over (sym failed ∙ fine) q u held_old over_old (reads_back seal size s old new d e one q read) in
                     (subst (IsSealed seal (shown u)) (sym (blob_same tells q u other held_old)) has.0, has.1)
@@ -261,7 +262,7 @@ module _ {F S : Type 0} {gs : _} (seal : List ℕ → ℕ) (size : ℕ) where
               later : new.failed ≡ false → (q : ℕ) → IsSome (new.journal.sections.unopened q) → new.journal.sections.ceiling < q
               later fine q has = elim (cases_eq q s) [
                 | inl at ↦
-                    let apart : new.journal.sections.unopened q ≡ None = over.opened_list.apart q (subst (IsHeld new.journal.sections) (sym at) (is_some (new.journal.sections.held s) v again.held)) in
+                    let apart : new.journal.sections.unopened q ≡ None = over.opened_list.apart q (subst (IsHeld new.journal.sections) (sym at) (some_there (new.journal.sections.held s) v again.held)) in
                     absurd (none_in (new.journal.sections.unopened q) (λ x. Unit {0}) apart (some_unit (new.journal.sections.unopened q) has))
                 | inr other ↦
                     let before : old.journal.sections.ceiling < q = ((was.disk tells).unopened (sym failed ∙ fine)).later q (subst IsSome (one.others q other).unopened has) in

@@ -24,10 +24,10 @@ use Rattle.section_manager.specs.Sections.{Sections, key_of, IsHeld, IsSame, Sam
 use Rattle.section_manager.specs.Setting.{Setting}
 use Rattle.section_manager.proofs.sections.KeyLemmas.{key_injective}
 use Rattle.section_manager.proofs.sections.OverLemmas.{same_key}
-use Rattle.section_manager.proofs.WalkLemmas.{value_of, has_value, some_same, none_or_value}
 use Rattle.segments.specs.FixedLasting.{Settling}
 use Rattle.segments.specs.FixedLists.{Lists, section_bytes, section_size, IsJournal, IsProven}
 use Rattle.segments.proofs.FixedSpared.{bytes_none, bytes_spared}
+use Rattle.blob_device.proofs.general.Options.{has_value, none_or_value, some_same, value_of}
 
 -- The buffers are page blobs under this seal.
 pub record ArePages {S : Type 0} {gs : _} (g : buffer.Ghosts (PageBlob S gs)) (seal : List ℕ → ℕ) : Type 0 where

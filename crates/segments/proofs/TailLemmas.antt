@@ -7,8 +7,8 @@ use Rattle.section_manager.specs.declared.sealed.AppendFactory.{AppendFactory}
 use Rattle.section_manager.specs.Sealed.{is_unsettled}
 use Rattle.section_manager.specs.SealedLaws.{all_settled}
 use Rattle.section_manager.specs.Sections.{Sections}
-use Rattle.section_manager.proofs.WalkLemmas.{none_or_value}
 use Rattle.segments.specs.Tails.{tail_held, tail_size, IsTailAfter}
+use Rattle.blob_device.proofs.general.Options.{none_or_value}
 
 module _ {S : Type 0} {gs : _} where
   -- a buffer of which all has settled has nothing left to flush

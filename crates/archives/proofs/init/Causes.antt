@@ -17,8 +17,7 @@ use Rattle.paired.specs.Records.{front}
 use Rattle.paired.specs.Replaying.{Run, is_sound_over, marker, records_given, records_over}
 use Rattle.paired.proofs.KeptLemmas.{stored_entries}
 use Rattle.paired.proofs.opening.Ends.{marked_is, marked_or_zero}
-use Rattle.paired.proofs.reconcile.Errors.{each_at}
-use Rattle.paired.proofs.RecordLemmas.{all_take, front-take}
+use Rattle.paired.proofs.RecordLemmas.{front-take}
 use Rattle.archives.specs.Filing.{Filing, kept_entries}
 use Rattle.archives.specs.IndexRecord.{index_of}
 use Rattle.archives.specs.Lawful.{Lawful}
@@ -27,6 +26,7 @@ use Rattle.archives.specs.Opening.{FindsShort, HasStray, IsPastLimits}
 use Rattle.archives.proofs.ArchiveStands.{all_unmap}
 use Rattle.archives.proofs.init.Records.{all_whole}
 use Rattle.archives.proofs.init.State.{all_has}
+use Rattle.blob_device.proofs.general.Lists.{all_take, each_at}
 
 -- ---- what a marker counts
 module _ (entries : MarkerMap) (size : ℕ) (floor_of : ℕ → ℕ) (floors : (s : ℕ) → floor_of s ≡ marker_of entries s * size) where

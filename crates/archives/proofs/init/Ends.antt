@@ -9,11 +9,9 @@ use Rattle.section_manager.specs.declared.buffer.SectionBuffer as buffer
 use Rattle.section_manager.specs.declared.unsealed.WriteFactory.{WriteFactory}
 use Rattle.section_manager.specs.Sections.{key_of}
 use Rattle.section_manager.specs.Setting.{Setting}
-use Rattle.section_manager.proofs.WalkLemmas.{none_or_value}
 use Rattle.segments.specs.FixedLists.{Lists}
 use Rattle.segments.specs.FixedReplay.{IsDrained, kept_of}
 use Rattle.segments.proofs.FixedBeginning.{finished_sealed}
-use Rattle.segments.proofs.FixedWalks.{is_some}
 use Rattle.meta_store.proofs.Uses.{IsReadable}
 use Rattle.meta_store.specs.Store.{contents_of}
 use Rattle.paired.specs.Kept.{kept, marker_of}
@@ -26,6 +24,7 @@ use Rattle.paired.proofs.reconcile.Resting.{none_of}
 use Rattle.paired.proofs.reconcile.Start.{Drained, GaveBack, kept_stored, opening, walk_unfailed}
 use Rattle.archives.specs.Filing.{Filing, kept_entries}
 use Rattle.archives.proofs.init.State.{marker_is, since_start}
+use Rattle.blob_device.proofs.general.Options.{none_or_value, some_there}
 
 module _ {F S : Type 0} {gs : _} {g : buffer.Ghosts (PageBlob S gs)} {gives : F → Setting} {takes : WriteFactory → Setting} {told : Type 0} (run : Run F (PageBlob S gs)) (o : OpenedList) (d : Disk) (e : Drained g gives takes told run o d) where
   -- the journal that a drained replay gives back
@@ -60,7 +59,7 @@ module _ {F S : Type 0} {gs : _} {g : buffer.Ghosts (PageBlob S gs)} {gives : F 
         | inl some ↦ some.1.0
         | inr zero_is ↦ absurd (moved (zero_is ∙ sym (ap length (none_given s none))))
       ]
-      | inr some ↦ e.over.index.over.opened_list.number s (inl (is_some (run.walk.journal.sections.held s) some.0 some.1))
+      | inr some ↦ e.over.index.over.opened_list.number s (inl (some_there (run.walk.journal.sections.held s) some.0 some.1))
     ]
   ]
     where

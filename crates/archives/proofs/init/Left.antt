@@ -10,8 +10,6 @@ use Rattle.section_manager.specs.declared.buffer.SectionBuffer as buffer
 use Rattle.section_manager.specs.declared.unsealed.WriteFactory.{WriteFactory}
 use Rattle.section_manager.specs.Sections.{IsHeld, section_key}
 use Rattle.section_manager.specs.Setting.{Setting}
-use Rattle.section_manager.proofs.WalkLemmas.{none_or_value}
-use Rattle.segments.proofs.FixedWalks.{is_some}
 use Rattle.segments.proofs.FixedWriteLemmas.{ArePages}
 use Rattle.meta_store.specs.Store.{contents_of}
 use Rattle.paired.specs.glob.Sections as glob
@@ -27,7 +25,6 @@ use Rattle.paired.proofs.GlobLemmas.{buffers}
 use Rattle.paired.proofs.opening.Ends.{front_sound, marked_is, marked_or_zero}
 use Rattle.paired.proofs.pair.Facts.{proven_of}
 use Rattle.paired.proofs.pair.Synced.{Here}
-use Rattle.paired.proofs.RecordLemmas.{all_by}
 use Rattle.paired.proofs.reconcile.Kept.{sound_longer}
 use Rattle.paired.proofs.reconcile.Phases.{markers_one}
 use Rattle.paired.proofs.reconcile.Resting.{Resting, known_of, index_number, rests_no_chance, stored_at, values_at, values_number}
@@ -38,6 +35,8 @@ use Rattle.archives.specs.Opening.{LeavesLawful}
 use Rattle.archives.proofs.ArchiveStands.{length_list}
 use Rattle.archives.proofs.init.Sound.{counted, decoded, lawful_read, no_foreign_before}
 use Rattle.archives.proofs.init.State.{length_left, none_behind, unheld_records}
+use Rattle.blob_device.proofs.general.Lists.{all_by}
+use Rattle.blob_device.proofs.general.Options.{none_or_value, some_there}
 
 -- a pair of which nothing is buffered rests
 pub pair_rests : {F S : Type 0} {gs : _} {g : buffer.Ghosts (PageBlob S gs)} {gives : F → Setting} {takes : WriteFactory → Setting} {told : Type 0} (p : Pair F (PageBlob S gs)) (o : OpenedList) (d : Disk)
@@ -108,7 +107,7 @@ module _ {F S : Type 0} {gs : _} {g : buffer.Ghosts (PageBlob S gs)} {gives : F 
             sound = subst (AllByRecursion (λ r. IsTrue (is_sound_over walked e s r))) given tt;
           }
       | inr some ↦
-          let has : IsHeld arch.pair.index.sections s = is_some (arch.pair.index.sections.held s) some.0 some.1 in
+          let has : IsHeld arch.pair.index.sections s = some_there (arch.pair.index.sections.held s) some.0 some.1 in
           let small : s < 2 ^ 64 = index_number rests.parts s has in
           let places = lawful.pair.places s small in
           let n : ℕ = last_end walked.layout.place (records_given walked e s) in

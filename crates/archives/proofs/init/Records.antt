@@ -29,8 +29,8 @@ use Rattle.paired.specs.OpeningRefusing.{IsUnreadable, last_of}
 use Rattle.paired.specs.Pair.{AreApart}
 use Rattle.paired.specs.Records.{each_below, records}
 use Rattle.paired.proofs.opening.Start.{read_alike}
-use Rattle.paired.proofs.RecordLemmas.{item_ends}
 use Rattle.archives.specs.Opening.{HasNoVersion}
+use Rattle.blob_device.proofs.general.Numbers.{item_ends}
 
 -- ---- sizes
 pub whole_fits : (n : ℕ) (bytes : List ℕ) → length bytes ≡ n → size_refusal n bytes ≡ None

@@ -10,8 +10,6 @@ use Rattle.sealed_pages.specs.ChanceSeal as pages
 use Rattle.sealed_pages.specs.SealedPrefix.{sealed_prefix}
 use Rattle.sealed_pages.specs.declared.page_blob.PageBlob.{PageBlob}
 use Rattle.section_manager.specs.Sections.{IsHeld, section_key}
-use Rattle.section_manager.proofs.WalkLemmas.{none_or_value}
-use Rattle.segments.proofs.FixedWalks.{is_some}
 use Rattle.meta_store.specs.Blobs.{blob_of, bytes_of}
 use Rattle.meta_store.specs.Crashes as metadata
 use Rattle.paired.specs.Crashes.{IsOwn, NoChanceSeal, WasThere}
@@ -25,7 +23,7 @@ use Rattle.paired.specs.Records as stored
 use Rattle.paired.specs.Records.{front, is_sound, records}
 use Rattle.paired.proofs.KeptLemmas.{stored_entries}
 use Rattle.paired.proofs.opening.Ends.{follow_first}
-use Rattle.paired.proofs.RecordLemmas.{all_by, all_take, front-take}
+use Rattle.paired.proofs.RecordLemmas.{front-take}
 use Rattle.archives.specs.Archives.{Archive, LeavesNoForeign, filing_of, state_of}
 use Rattle.archives.specs.Filing.{Filing, filed, kept_entries}
 use Rattle.archives.specs.IndexRecord.{index_of}
@@ -35,6 +33,8 @@ use Rattle.archives.specs.Opening.{LeavesLawful}
 use Rattle.archives.specs.Standing.{Leaves}
 use Rattle.archives.proofs.ArchiveStands.{all_unmap, foreign_not_own, list_records, names_left}
 use Rattle.archives.proofs.StandLemmas.{AreFiled, keeps_stand}
+use Rattle.blob_device.proofs.general.Lists.{all_by, all_take}
+use Rattle.blob_device.proofs.general.Options.{none_or_value, some_there}
 
 -- ---- what a lawful image keeps is filed as a lawful image asks
 pub follow_end : (place : List ℕ → ℕ × ℕ) (at : ℕ) (rs : List (List ℕ)) (end : ℕ) → Follow place at rs end → end_of place at rs ≡ end
@@ -156,7 +156,7 @@ module _ {F S : Type 0} {gs : _} (f : Filing) (from : Disk) (markers : Markers) 
   counted number s = elim (none_or_value (arch.pair.values.held s)) [
     | inl none ↦ omega (arith, ap glob.size_held none)
     | inr some ↦
-        let small : s < 2 ^ 64 = number s (is_some (arch.pair.values.held s) some.0 some.1) in
+        let small : s < 2 ^ 64 = number s (some_there (arch.pair.values.held s) some.0 some.1) in
         let size = glob.section_size arch.pair.values s in
         let places : Follow f.layout.place 0 (records_of arch.pair z s) size = subst (λ (l : Layout). Follow l.place 0 (records_of arch.pair z s) size) own (sound.places s) in
         let other : Follow f.layout.place 0 (records_of arch.pair z s) (lists_filed.end s) = subst (λ (rs : List (List ℕ)). Follow f.layout.place 0 rs (lists_filed.end s)) (list_records arch z s) (lists_filed.follow s small) in

@@ -12,9 +12,7 @@ use Rattle.meta_store.specs.Store.{Store, contents_of}
 use Rattle.meta_store.proofs.Uses.{IsReadable}
 use Rattle.sealed_pages.specs.declared.page_blob.PageBlob.{PageBlob}
 use Rattle.section_manager.specs.Sections.{IsHeld, key_of}
-use Rattle.section_manager.proofs.WalkLemmas.{none_or_value}
 use Rattle.segments.specs.FixedLists as fixed
-use Rattle.segments.proofs.FixedWalks.{is_some}
 use Rattle.paired.specs.glob.Sections as glob
 use Rattle.paired.specs.Kept.{Layout, Markers, kept, marker_of}
 use Rattle.paired.specs.Crashes.{HoldMarkers}
@@ -25,7 +23,7 @@ use Rattle.paired.specs.Records as stored
 use Rattle.paired.specs.Records.{records}
 use Rattle.paired.specs.Replaying.{Run, marker, records_given}
 use Rattle.paired.proofs.pair.Reads.{index_size}
-use Rattle.paired.proofs.RecordLemmas.{all_by, length-records}
+use Rattle.paired.proofs.RecordLemmas.{length-records}
 use Rattle.archives.specs.Archives.{Archive, filing_of, state_of}
 use Rattle.archives.specs.Filing.{Filing, filed, kept_entries}
 use Rattle.archives.specs.IndexRecord.{index_of, key_of as key_in}
@@ -35,6 +33,8 @@ use Rattle.archives.specs.Rows.{Row, row_in}
 use Rattle.archives.specs.Standing.{IsStart}
 use Rattle.archives.proofs.ArchiveStands.{all_unmap}
 use Rattle.archives.proofs.init.Records.{one_markers}
+use Rattle.blob_device.proofs.general.Lists.{all_by}
+use Rattle.blob_device.proofs.general.Options.{none_or_value, some_there}
 
 -- an archive over this pair that files so, and of which nothing was pruned
 abbrev pub archive_over : {F B : Type 0} → Pair F B → Filing → (List ℕ → Option codec.Error) → (ℕ → List Row) → Type 0 → (ℕ → Bool) → (ℕ → Bool) → Archive F B
@@ -82,7 +82,7 @@ module _ {F S : Type 0} {gs : _} (p : Pair F (PageBlob S gs)) (pos : 1 ≤ p.lay
   pub none_behind : (IsHeld p.index.sections s → s < 2 ^ 64) → 2 ^ 64 ≤ s → list_of p d s ≡ []
   none_behind number behind = elim (none_or_value (p.index.sections.held s)) [
     | inl none ↦ unheld_list none
-    | inr some ↦ absurd (omega (arith, behind, number (is_some (p.index.sections.held s) some.0 some.1)))
+    | inr some ↦ absurd (omega (arith, behind, number (some_there (p.index.sections.held s) some.0 some.1)))
   ]
 
   -- a section's length is that of its list

@@ -18,10 +18,8 @@ use Rattle.section_manager.specs.Setting.{Setting}
 use Rattle.section_manager.specs.unsealed.Buffer.{count_of, is_unsettled}
 use Rattle.section_manager.specs.unsealed.Laws.{rested, found_again}
 use Rattle.section_manager.proofs.buffers.NothingSealed.{nothing_sealed}
-use Rattle.section_manager.proofs.WalkLemmas.{none_or_value, some_same, value_of}
 use Rattle.segments.specs.FixedLists as fixed
 use Rattle.segments.specs.FixedReplay.{kept_of}
-use Rattle.segments.proofs.FixedWalks.{is_some}
 use Rattle.segments.proofs.FixedWriteLemmas.{ArePages}
 use Rattle.paired.specs.glob.Sections as glob
 use Rattle.paired.specs.Kept.{content_at, stored_records}
@@ -34,6 +32,7 @@ use Rattle.paired.proofs.pair.Reads.{index_size}
 use Rattle.paired.proofs.pair.Synced.{Here}
 use Rattle.paired.proofs.reconcile.Resting.{none_of, reads_absent, reads_there, rest_there}
 use Rattle.paired.proofs.RecordLemmas.{length-records}
+use Rattle.blob_device.proofs.general.Options.{none_or_value, some_same, some_there, value_of}
 
 module _ {F S : Type 0} {gs : _} {g : buffer.Ghosts (PageBlob S gs)} {gives : F → Setting} {takes : WriteFactory → Setting} {told : Type 0} (run : Run F (PageBlob S gs)) (o : OpenedList) (d : Disk)
     (pages : ArePages g run.layout.seal) (here : Here gives (pair_of run)) (was : IsRun run g gives buffers takes told o d) (tracked : run.tracked ≡ true) (unfailed : HasFailed run → ⊥) (t : told) where
@@ -68,7 +67,7 @@ module _ {F S : Type 0} {gs : _} {g : buffer.Ghosts (PageBlob S gs)} {gives : F 
   pub stored_here : (s : ℕ) (u : PageBlob S gs) → run.walk.journal.sections.held s ≡ Some u
       → stored_records run.layout (as_read d) s ≡ records run.layout.record_size (sealed_prefix run.layout.seal u.page_size (d (key_of run.walk.journal.sections s)).content)
   stored_here s u held =
-      ap (λ (x : Option (List ℕ)). records run.layout.record_size (sealed_prefix run.layout.seal run.layout.page_size (unwrap_or x []))) (there s (is_some (run.walk.journal.sections.held s) u held))
+      ap (λ (x : Option (List ℕ)). records run.layout.record_size (sealed_prefix run.layout.seal run.layout.page_size (unwrap_or x []))) (there s (some_there (run.walk.journal.sections.held s) u held))
       ∙ ap (λ (k : Key). records run.layout.record_size (sealed_prefix run.layout.seal run.layout.page_size (d k).content)) (sym (key_here s))
       ∙ sym (ap (λ (n : ℕ). records run.layout.record_size (sealed_prefix run.layout.seal n (d (key_of run.walk.journal.sections s)).content)) (paged s u held))
 
@@ -117,7 +116,7 @@ module _ {F S : Type 0} {gs : _} {g : buffer.Ghosts (PageBlob S gs)} {gives : F 
   -- the values read as the glob's bytes
   value_idle : (s : ℕ) (v : WriteBlob) → run.values.held s ≡ Some v → is_unsettled v ≡ false
   value_idle s v held =
-      let w = value_of (run.values.held s) (λ x. (x.settled ≡ count_of x) × (is_unsettled x ≡ false)) (old.values_settled s (is_some (run.values.held s) v held)) in
+      let w = value_of (run.values.held s) (λ x. (x.settled ≡ count_of x) × (is_unsettled x ≡ false)) (old.values_settled s (some_there (run.values.held s) v held)) in
       subst (λ (x : WriteBlob). is_unsettled x ≡ false) (some_same w.value v (sym w.is ∙ held)) w.has.1
 
   pub values_at : (s : ℕ) → s < 2 ^ 64 → content_at (as_read d) run.layout.values s ≡ glob.section_bytes run.values d s
@@ -137,5 +136,5 @@ module _ {F S : Type 0} {gs : _} {g : buffer.Ghosts (PageBlob S gs)} {gives : F 
   pub given_number : (s p : ℕ) → p < length (records_given run d s) → s < 2 ^ 64
   given_number s p lt = elim (none_or_value (run.walk.journal.sections.held s)) [
     | inl none ↦ absurd (omega (arith, lt, ap length (given_none s none)))
-    | inr some ↦ held_number s (is_some (run.walk.journal.sections.held s) some.0 some.1)
+    | inr some ↦ held_number s (some_there (run.walk.journal.sections.held s) some.0 some.1)
   ]

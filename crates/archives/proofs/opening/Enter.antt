@@ -6,9 +6,9 @@ use Rattle.std.specs.List.{AllByRecursion}
 use Rattle.std.specs.List.Sorted.{IsStrictlySortedBy}
 use Rattle.std.specs.Ordering.{nat_cmp}
 use Rattle.std.proofs.lemmas.Bool.{cases_eq, eq-eqb, eqb-true, false≢true}
-use Rattle.paired.proofs.RecordLemmas.{all_by, all_with}
 use Rattle.archives.specs.Machine.{section_of}
 use Rattle.archives.specs.Rows.{AreWithin, HasRoom, Row}
+use Rattle.blob_device.proofs.general.Lists.{all_by, all_push, all_with}
 
 -- the list without the first s
 abbrev without : ℕ → List ℕ → List ℕ
@@ -48,10 +48,6 @@ without_other s (x ∷ xs) up = elim (eqb x s) as (λ b. eqb x s ≡ b → AllBy
   | true ↦ λ is. above s xs (subst (λ (z : ℕ). AllByRecursion (λ y. nat_cmp z y ≡ Less) xs) (eqb-true x s is) up.0)
   | false ↦ λ is. (λ same. false≢true (sym is ∙ eq-eqb x s same), without_other s xs up.1)
 ] refl
-
-pub all_push : {X : Type 0} (P : X → Type 0) (xs : List X) (x : X) → AllByRecursion P xs → P x → AllByRecursion P (xs ++ x ∷ [])
-all_push P [] x all has = (has, tt)
-all_push P (y ∷ ys) x all has = (all.0, all_push P ys x all.1 has)
 
 module _ (items sections per_section s : ℕ) (r : Row) (old new : ℕ → List Row) (added : new s ≡ old s ++ r ∷ []) (others : (t : ℕ) → t ≢ s → new t ≡ old t)
     (some : 1 ≤ per_section) where

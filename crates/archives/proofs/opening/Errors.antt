@@ -30,7 +30,6 @@ use Rattle.section_manager.specs.Setting.{Setting}
 use Rattle.segments.specs.FixedItems.{item_at}
 use Rattle.segments.specs.FixedLists.{section_size, size_held}
 use Rattle.segments.specs.FixedReplay.{FindsDamage, kept_bytes}
-use Rattle.segments.proofs.FixedReading.{the_some}
 use Rattle.segments.proofs.FixedWriteLemmas.{ArePages}
 use Rattle.paired.specs.Kept.{Layout, marker_of, stored_records}
 use Rattle.paired.specs.Opening.{as_read, IsLawful}
@@ -40,7 +39,6 @@ use Rattle.paired.specs.Replaying.{IsOpeningRun, IsUnspelled, Run, marker, pair_
 use Rattle.paired.proofs.next.Answers.{Clauses}
 use Rattle.paired.proofs.pair.Failing.{rose_before}
 use Rattle.paired.proofs.pair.Synced.{Here}
-use Rattle.paired.proofs.RecordLemmas.{item_ends}
 use Rattle.paired.proofs.ReplayLemmas.{record_at}
 use Rattle.archives.specs.declared.error.Error as archive
 use Rattle.archives.specs.declared.error.Error.TheVariants.{Journal, Metadata, RecordCorrupted}
@@ -49,6 +47,8 @@ use Rattle.archives.specs.Raised.{raised}
 use Rattle.archives.proofs.read.Causes.{HasFailed}
 use Rattle.archives.proofs.opening.Loop.{Going, Passed}
 use Rattle.archives.proofs.opening.Passed.{short_same, short_stored}
+use Rattle.blob_device.proofs.general.Numbers.{item_ends}
+use Rattle.blob_device.proofs.general.Options.{the_some}
 
 -- An error of a journal is that of the journal below.
 raised_journal : (y e : journal.Error) → raised y ≡ Journal e → y ≡ e

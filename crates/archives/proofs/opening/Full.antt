@@ -6,9 +6,9 @@ use Rattle.std.specs.List.{AllByRecursion}
 use Rattle.std.specs.List.Sorted.{IsStrictlySortedBy}
 use Rattle.std.specs.Ordering.{nat_cmp}
 use Rattle.std.proofs.lemmas.Bool.{cases_eq, cases_lt, false≢true}
-use Rattle.paired.proofs.RecordLemmas.{all_by}
 use Rattle.archives.specs.Opening.{IsPastLimits}
 use Rattle.archives.specs.Rows.{FewerThan, HasRoom, Row}
+use Rattle.blob_device.proofs.general.Lists.{all_by}
 
 -- of the n numbers from k on those that pass the test
 abbrev passing : (ℕ → Bool) → ℕ → ℕ → List ℕ

@@ -19,7 +19,6 @@ use Rattle.paired.specs.Records as stored
 use Rattle.paired.specs.Replaying.{GivesRecord, HasFailed, IsDue, IsRun, Run, marker, pair_of, records_given}
 use Rattle.paired.proofs.GlobLemmas.{buffers}
 use Rattle.paired.proofs.pair.Synced.{Here}
-use Rattle.paired.proofs.RecordLemmas.{all_by}
 use Rattle.archives.specs.IndexRecord.{index_of}
 use Rattle.archives.specs.Machine.{section_of}
 use Rattle.archives.specs.Opening.{HasEntered, HasStray, IsPastLimits}
@@ -28,6 +27,7 @@ use Rattle.archives.proofs.init.Stored.{given_number}
 use Rattle.archives.proofs.opening.Full.{is_over, rows_given, some_long}
 use Rattle.archives.proofs.opening.Passed.{kept_first, passed_stored}
 use Rattle.archives.proofs.opening.Walk.{Stays}
+use Rattle.blob_device.proofs.general.Lists.{all_by}
 
 -- ---- the same records kept
 module _ (few many : ℕ → List stored.Entry) (same : (s : ℕ) → s < 2 ^ 64 → few s ≡ many s) where

@@ -15,7 +15,6 @@ use Rattle.sealed_pages.specs.declared.page_blob.PageBlob.{PageBlob}
 use Rattle.sealed_pages.proofs.adopted.Adopt.{get_or-data_from, length-data_from}
 use Rattle.sealed_pages.proofs.memory.Holding.{bytes_length}
 use Rattle.sealed_pages.proofs.looking.ReadLemmas.{read_data}
-use Rattle.sealed_pages.proofs.slots.SlotLemmas.{times_next}
 use Rattle.sealed_pages.proofs.cutting.Truncating.{all_flushed}
 use Rattle.sealed_pages.proofs.UnrecoveredLemmas.{prefix_short}
 use Rattle.section_manager.specs.declared.buffer.SectionBuffer as buffer
@@ -23,10 +22,8 @@ use Rattle.section_manager.specs.declared.journal.Damage.{Damage}
 use Rattle.section_manager.specs.declared.unsealed.WriteFactory.{WriteFactory}
 use Rattle.section_manager.specs.Sections.{IsHeld, key_of}
 use Rattle.section_manager.specs.Setting.{Setting}
-use Rattle.section_manager.proofs.WalkLemmas.{has_value, none_or_value, some_same, value_of}
 use Rattle.segments.specs.FixedReplay.{EndsBelow, IsAhead, IsGoneOver, IsIn, IsLeft, Place, ReadsIn, StandsIn, first_of, kept_bytes}
 use Rattle.segments.proofs.FixedKept.{covered_length, flushed_data, prefix_data, sealed_flushed}
-use Rattle.segments.proofs.FixedWalks.{is_some}
 use Rattle.segments.proofs.FixedWriteLemmas.{ArePages}
 use Rattle.paired.specs.Kept.{Layout, content_at, is_sound_in, kept, stored_records}
 use Rattle.paired.specs.Opening.{as_read}
@@ -36,8 +33,10 @@ use Rattle.paired.proofs.GlobLemmas.{buffers}
 use Rattle.paired.proofs.KeptLemmas.{stored_entries}
 use Rattle.paired.proofs.opening.Ends.{front_all}
 use Rattle.paired.proofs.pair.Synced.{Here}
-use Rattle.paired.proofs.RecordLemmas.{front-take, item_ends, length-records, records-enough, records-front}
+use Rattle.paired.proofs.RecordLemmas.{front-take, length-records, records-enough, records-front}
 use Rattle.archives.proofs.init.Stored as opening
+use Rattle.blob_device.proofs.general.Numbers.{item_ends, times_next}
+use Rattle.blob_device.proofs.general.Options.{has_value, none_or_value, some_same, some_there, value_of}
 
 -- ---- lists
 -- of the first records the first ones are kept
@@ -195,7 +194,7 @@ module _ {F S : Type 0} {gs : _} {g : buffer.Ghosts (PageBlob S gs)} {gives : F 
 
       where_gone : (IsIn run.walk s → ⊥) → p < length (stored_records run.layout (as_read d) s)
       where_gone not_in =
-          let gone : IsGoneOver run.walk s = record { begun = omega (arith, (opening.old run o d pages here was tracked unfailed t).start_section); not_ahead = λ is. left_by (inl (is_some (run.walk.journal.sections.held s) u held, is)); not_in = not_in } in
+          let gone : IsGoneOver run.walk s = record { begun = omega (arith, (opening.old run o d pages here was tracked unfailed t).start_section); not_ahead = λ is. left_by (inl (some_there (run.walk.journal.sections.held s) u held, is)); not_in = not_in } in
           let bytes : List ℕ = bytes_of (shown u) (at s).content in
           enough (omega (arith, gone_sealed s u held gone, times_next p run.layout.record_size, item_ends run.layout.record_size (length bytes) p (omega (arith, over_given, ap length bytes_over, length-records run.layout.record_size bytes))))
 

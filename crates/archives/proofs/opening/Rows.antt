@@ -15,8 +15,8 @@ use Rattle.archives.specs.IndexRecordLaws.{index_of-index_record, key_of-index_r
 use Rattle.archives.specs.Machine.{section_of}
 use Rattle.archives.specs.Opening.{HasEntered}
 use Rattle.archives.specs.Rows.{AreWithin, Row, row_in}
-use Rattle.archives.proofs.opening.Enter.{all_push}
 use Rattle.archives.specs.declared.prunable.index_record.IndexRecord.{IndexRecord}
+use Rattle.blob_device.proofs.general.Lists.{all_push}
 
 -- nothing is entered at the beginning
 pub entered_start : {F S : Type 0} {gs : _} (key_size : ℕ) (rows : ℕ → List Row) (run : Run F (PageBlob S gs)) (d : Disk) → ((s : ℕ) → rows s ≡ []) → ((s p : ℕ) → IsDue run d s p ↔ (p < length (records_given run d s)))

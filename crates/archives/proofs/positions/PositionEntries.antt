@@ -15,7 +15,8 @@ use Rattle.archives.specs.Machine.{ContainsAt, Entry, all_entries, all_values, e
 use Rattle.archives.specs.Rows.{row_in}
 use Rattle.archives.proofs.positions.PositionLemmas.{AreEach, are_standing, at_kept, each_weaker, kept_at, one_of, read_standing, standing}
 use Rattle.archives.proofs.read.Finding.{both_at, from_list, to_list}
-use Rattle.archives.proofs.read.Records.{from_map, some_value, to_map, weaker_at}
+use Rattle.archives.proofs.read.Records.{from_map, to_map, weaker_at}
+use Rattle.blob_device.proofs.general.Options.{the_some}
 
 -- ---- what the records at ascending positions say of the machine's lists
 
@@ -73,7 +74,7 @@ module _ {F S : Type 0} {gs : _} (a : Archive F (PageBlob S gs)) (d : Disk) (sho
       let found = from_map filed_as (λ x. (x.index ≡ i) × (x.key ≡ key)) (list_of a.pair d s) at.0 at.1 in
       let row = from_list a d shows (λ r. r.index ≡ i) s at.0 (weaker_at (slice_get (list_of a.pair d s) at.0) (λ x both. both.0) found) in
       let other = one_of (HasOtherKeyAt a d s key) ps at.0 all ((are.exact at.0).1 row) in
-      let apart = some_value (slice_get (list_of a.pair d s) at.0) (both_at (λ x. (index_of x.stored ≡ i) × (key_of a.key_size x.stored ≡ key)) (λ x. key_of a.key_size x.stored ≢ key) (slice_get (list_of a.pair d s) at.0) found other) in
+      let apart = the_some (slice_get (list_of a.pair d s) at.0) (both_at (λ x. (index_of x.stored ≡ i) × (key_of a.key_size x.stored ≡ key)) (λ x. key_of a.key_size x.stored ≢ key) (slice_get (list_of a.pair d s) at.0) found other) in
       apart.2.1 apart.2.0.1
 
 -- ---- lists of entries, and of their values

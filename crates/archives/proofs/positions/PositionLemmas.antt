@@ -9,10 +9,10 @@ use Rattle.std.specs.Ordering.{nat_cmp}
 use Rattle.std.proofs.lemmas.Bool.{eq-eqb, eqb-true, false≢true}
 use Rattle.std.proofs.lemmas.Map.Keys.{sorted_head, sorted_tail}
 use Rattle.std.proofs.lemmas.Option.{slice_get-get_or}
-use Rattle.ordinal_store.proofs.ranges.Compared.{lt_from_less}
 use Rattle.record_tables.specs.Rows.{ArePositions}
 use Rattle.archives.specs.Rows.{Row, count_with}
 use Rattle.archives.proofs.read.Finding.{contains_at}
+use Rattle.blob_device.proofs.general.Numbers.{lt_from_less}
 
 -- ---- elements of a list
 

@@ -14,9 +14,7 @@ use Rattle.section_manager.specs.Sections.{IsSame}
 use Rattle.section_manager.specs.Sections as sections
 use Rattle.section_manager.specs.SealedLaws.{counted}
 use Rattle.section_manager.specs.Setting.{Setting}
-use Rattle.section_manager.proofs.WalkLemmas.{none_or_value}
 use Rattle.segments.specs.FixedLists as fixed
-use Rattle.segments.proofs.FixedCutLemmas.{no_rest}
 use Rattle.paired.specs.glob.Sections as glob
 use Rattle.paired.specs.Pair.{Pair, IsPair, length_of, list_of, records_of, synced_length}
 use Rattle.paired.specs.Records as stored
@@ -31,7 +29,10 @@ use Rattle.archives.specs.Machine.{section_of}
 use Rattle.archives.specs.Rows.{HasRoom, Row, row_in}
 use Rattle.archives.proofs.IndexSets.{row_added}
 use Rattle.archives.proofs.ArchiveStands.{list_records}
-use Rattle.archives.proofs.put.Rows.{all_push, few_now, few_sections_now, other_or_same}
+use Rattle.archives.proofs.put.Rows.{few_now, few_sections_now, other_or_same}
+use Rattle.blob_device.proofs.general.Lists.{all_push}
+use Rattle.blob_device.proofs.general.Numbers.{no_rest}
+use Rattle.blob_device.proofs.general.Options.{none_or_value}
 
 -- a section has as many records as it counts
 record_counted : {F S : Type 0} {gs : _} (p : Pair F (PageBlob S gs)) (d : Disk) (s : ℕ) → length (records_of p d s) ≡ length_of p s

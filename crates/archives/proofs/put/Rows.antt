@@ -7,8 +7,8 @@ use Rattle.std.specs.Ordering.{nat_cmp}
 use Rattle.std.proofs.lemmas.Bool.Decides.{nat_tests}
 use Rattle.std.proofs.lemmas.List.Kept.{IsStrictlySortedBy-filter}
 use Rattle.std.proofs.lemmas.Nat.{div-add-mod'}
-use Rattle.paired.proofs.RecordLemmas.{all_by}
 use Rattle.archives.specs.Machine.{section_of}
+use Rattle.blob_device.proofs.general.Lists.{all_by}
 
 -- ---- a list without one number
 
@@ -69,11 +69,6 @@ one_less s (x ∷ xs) up = elim (other_or_same s x) [
       let rest : length (without s (x ∷ xs)) ≡ suc (length (without s xs)) = ap (λ (b : Bool). length (cond b (x ∷ without s xs) (without s xs))) (is_another s x other) in
       omega (arith, one_less s xs up.1, rest)
 ]
-
--- what holds of each of a list and of one more
-pub all_push : {X : Type 0} (P : X → Type 0) (xs : List X) (x : X) → AllByRecursion P xs → P x → AllByRecursion P (xs ++ x ∷ [])
-all_push P [] x all one = (one, tt)
-all_push P (y ∷ ys) x all one = (all.0, all_push P ys x all.1 one)
 
 -- ---- limits
 

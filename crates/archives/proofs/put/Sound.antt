@@ -9,7 +9,6 @@ use Rattle.section_manager.proofs.sections.KeyLemmas.{keys_differ}
 use Rattle.paired.specs.glob.Sections as glob
 use Rattle.paired.specs.Pair.{HasNoBytes, Pair, list_of, records_of, IsSafeOn}
 use Rattle.paired.specs.Places.{Follow}
-use Rattle.paired.proofs.RecordLemmas.{all_by}
 use Rattle.archives.specs.Archives.{Archive, Buffers, IsArchive, IsSoundArchive, LeavesNoForeign, filing_of, state_of}
 use Rattle.archives.specs.Filing.{filed}
 use Rattle.archives.specs.Machine.{appended, section_of}
@@ -17,8 +16,9 @@ use Rattle.archives.specs.Putting.{Times, after_putting}
 use Rattle.archives.specs.Rows.{Row}
 use Rattle.archives.proofs.ArchiveStands.{no_foreign}
 use Rattle.archives.proofs.put.Lemmas.{Adds, grown, new_record, records_now}
-use Rattle.archives.proofs.put.Rows.{all_push, other_or_same}
+use Rattle.archives.proofs.put.Rows.{other_or_same}
 use Rattle.archives.proofs.put.Stands.{IsFree, lists_appended, new_entry, put_is, wanted, wanted_here, wanted_other}
+use Rattle.blob_device.proofs.general.Lists.{all_by, all_push}
 
 -- the last of places that follow each other ends where they do
 pub follow_last : (place : List ℕ → ℕ × ℕ) (at : ℕ) (rs : List (List ℕ)) (r : List ℕ) (end : ℕ) → Follow place at (rs ++ r ∷ []) end → end ≡ (place r).0 + (place r).1

@@ -22,7 +22,6 @@ use Rattle.paired.specs.Places.{Follow}
 use Rattle.paired.specs.Records as stored
 use Rattle.paired.proofs.pair.Appending.{follow-push}
 use Rattle.paired.proofs.pair.Reads.{leaves_now}
-use Rattle.paired.proofs.RecordLemmas.{all_by}
 use Rattle.archives.specs.Archives.{Archive, Buffers, IsArchive, IsSoundArchive, filing_of, state_of}
 use Rattle.archives.specs.Commands.{Command}
 use Rattle.archives.specs.Filing.{Filing, filed, kept}
@@ -34,9 +33,10 @@ use Rattle.archives.specs.PuttingLaws.{taken_state}
 use Rattle.archives.specs.Rows.{HasRoom, row_in}
 use Rattle.archives.specs.Standing.{Leaves, StandsFor, submitted}
 use Rattle.archives.proofs.ArchiveStands.{are_filed, glob_buffers, in_section, length_rows, list_records, names_left, no_foreign, no_list, stands_at}
-use Rattle.archives.proofs.put.Rows.{all_push, few_now, few_sections_now, other_or_same}
+use Rattle.archives.proofs.put.Rows.{few_now, few_sections_now, other_or_same}
 use Rattle.archives.proofs.PuttingLemmas.{submits_by}
 use Rattle.archives.proofs.StandLemmas.{AreFiled, keeps_stand}
+use Rattle.blob_device.proofs.general.Lists.{all_by, all_push}
 
 -- ---- at rest
 

@@ -15,7 +15,8 @@ use Rattle.archives.specs.Machine.{ContainsKey, Entry, HasEntry, OpenStep, State
 use Rattle.archives.specs.Putting.{is_taken}
 use Rattle.archives.specs.Replies as reply
 use Rattle.archives.specs.Rows.{Row, row_in}
-use Rattle.archives.proofs.read.Records.{from_map, listed, some_value, to_map, unlisted, weaker_at}
+use Rattle.archives.proofs.read.Records.{from_map, listed, to_map, unlisted, weaker_at}
+use Rattle.blob_device.proofs.general.Options.{the_some}
 
 -- record p of section s is the first one of its section that is wanted
 pub record IsFirst {F B : Type 0} (a : Archive F B) (wanted : Wanted) (s p : ℕ) : Type 0 where
@@ -94,7 +95,7 @@ module _ {F S : Type 0} {gs : _} (a : Archive F (PageBlob S gs)) where
     key_found k s p v is value =
         let HasKey : stored.Entry → Type 0 = λ e. key_of a.key_size e.stored ≡ k in
         let both = both_at HasKey (λ e. e.value ≡ v) (slice_get (list_of a.pair d s) p) (to_list (λ r. r.key ≡ k) s p is) value in
-        let entry = some_value (slice_get (map filed_as (list_of a.pair d s)) p) (to_map filed_as (λ r. (r.key ≡ k) × (r.value ≡ v)) (list_of a.pair d s) p both) in
+        let entry = the_some (slice_get (map filed_as (list_of a.pair d s)) p) (to_map filed_as (λ r. (r.key ≡ k) × (r.value ≡ v)) (list_of a.pair d s) p both) in
         (s, entry.0, contains_at (map filed_as (list_of a.pair d s)) p entry.0 entry.1, entry.2.0, entry.2.1)
 
     pub key_none : (k : List ℕ) → ((s : ℕ) → IsIn a (Key k) s → ⊥) → ContainsKey (state_of a d) k → ⊥
@@ -104,7 +105,7 @@ module _ {F S : Type 0} {gs : _} (a : Archive F (PageBlob S gs)) where
 
     -- a value of the entry
     a_value : (P : stored.Entry → Type 0) (s p : ℕ) → IsSomeAnd (slice_get (list_of a.pair d s) p) P → (v : List ℕ) × IsSomeAnd (slice_get (list_of a.pair d s) p) (λ e. e.value ≡ v)
-    a_value P s p is = let found = some_value (slice_get (list_of a.pair d s) p) is in
+    a_value P s p is = let found = the_some (slice_get (list_of a.pair d s) p) is in
         (found.0.value, subst (λ (o : Option stored.Entry). IsSomeAnd o (λ e. e.value ≡ found.0.value)) (sym found.1) refl)
 
     -- ---- the replies
@@ -122,7 +123,7 @@ module _ {F S : Type 0} {gs : _} (a : Archive F (PageBlob S gs)) where
         xs = map filed_as (list_of a.pair d s)
 
         here : s ≡ section_of a.items i
-        here = (some_value (slice_get (a.rows s) p) first.here).2.0
+        here = (the_some (slice_get (a.rows s) p) first.here).2.0
 
         value_here : IsSomeAnd (slice_get xs p) (λ r. (r.index ≡ i) × (r.value ≡ v))
         value_here = to_map filed_as (λ r. (r.index ≡ i) × (r.value ≡ v)) (list_of a.pair d s) p

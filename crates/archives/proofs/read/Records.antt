@@ -17,12 +17,9 @@ use Rattle.archives.specs.declared.prunable.index_record.IndexRecord.{IndexRecor
 use Rattle.record_tables.specs.Rows as held
 use Rattle.record_tables.specs.Tables as tables
 use Rattle.record_tables.specs.declared.tables.Tables.{Tables}
+use Rattle.blob_device.proofs.general.Options.{the_some}
 
 -- ---- what stands at a place of a list
-
-pub some_value : {X : Type 0} {P : X → Type 0} (o : Option X) → IsSomeAnd o P → (x : X) × (o ≡ Some x) × P x
-some_value None is = absurd is
-some_value (Some x) is = (x, refl, is)
 
 pub value_some : {X : Type 0} (P : X → Type 0) (o : Option X) (x : X) → o ≡ Some x → P x → IsSomeAnd o P
 value_some {X} P o x is has = subst (λ (q : Option X). IsSomeAnd q P) (sym is) has
@@ -62,7 +59,7 @@ module _ {X Y : Type 0} (f : X → Y) (Q : Y → Type 0) (xs : List X) (p : ℕ)
 pub key_behind : {K W : Type 0} (key_bytes : K → List ℕ) (t : Tables W K) (s p : ℕ) → IsSomeAnd (slice_get (rows_of key_bytes t s) p) (λ _. ⊤)
     → (k : K) × IsSomeAnd (slice_get (rows_of key_bytes t s) p) (λ r. r.key ≡ key_bytes k)
 key_behind {K} key_bytes t s p has =
-    let row = some_value (slice_get (tables.rows_of t s) p) (from_map (row_of key_bytes) (λ _. ⊤) (tables.rows_of t s) p has) in
+    let row = the_some (slice_get (tables.rows_of t s) p) (from_map (row_of key_bytes) (λ _. ⊤) (tables.rows_of t s) p has) in
     (row.0.key, to_map (row_of key_bytes) (λ r. r.key ≡ key_bytes row.0.key) (tables.rows_of t s) p (value_some (λ (q : held.Row K). key_bytes q.key ≡ key_bytes row.0.key) (slice_get (tables.rows_of t s) p) row.0 row.1 refl))
 
 -- the bytes of a record are those of one with this key, where they say this key
@@ -101,7 +98,7 @@ module _ {F S : Type 0} {gs : _} (pair : Pair F (PageBlob S gs)) (d : Disk) (s p
       let HasKey : Row → Type 0 = λ r. r.key ≡ key_bytes k in
       let rs = records_of pair d s in
       let at = from_map (row_in size) HasKey rs p (subst (λ (xs : List Row). IsSomeAnd (slice_get xs p) HasKey) shows has) in
-      let found = some_value (slice_get rs p) (all_at (IsSpelled size) (λ r. key_of size r ≡ key_bytes k) rs p spelled at) in
+      let found = the_some (slice_get rs p) (all_at (IsSpelled size) (λ r. key_of size r ≡ key_bytes k) rs p spelled at) in
       let made = record_with key_bytes k size found.0 found.2.0 found.2.1 in
       let Is : stored.Entry → Type 0 = λ e. e.stored ≡ spelling_of key_bytes made.0 in
       (made.0, made.1, listed Is (λ r is. is) (value_some (λ (r : List ℕ). r ≡ spelling_of key_bytes made.0) (slice_get rs p) found.0 found.1 made.2))

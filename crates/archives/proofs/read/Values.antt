@@ -30,7 +30,8 @@ use Rattle.archives.proofs.read.Causes.{HasCause}
 use Rattle.archives.specs.Rows.{row_in}
 use Rattle.archives.specs.declared.error.Error.{Error}
 use Rattle.archives.proofs.read.Fails.{Why, lower, of_why, under}
-use Rattle.archives.proofs.read.Records.{Names, all_at, named_value, some_value, weaker_at}
+use Rattle.archives.proofs.read.Records.{Names, all_at, named_value, weaker_at}
+use Rattle.blob_device.proofs.general.Options.{the_some}
 
 -- ---- what stays
 
@@ -137,6 +138,6 @@ module _ {F S : Type 0} {gs : _} (a : Archive F (PageBlob S gs)) (d e : Disk) (s
       accepted : IsSoundArchive a e → IsSomeAnd (slice_get (list_of a.pair e s) p) (λ y. (y.value ≡ bytes_at (glob.section_bytes a.pair.values e s) at (n - 4)) × (a.pair.layout.place y.stored ≡ (at, n))) → (z : codec.Error)
           → ((spelled : List ℕ) × HasFrame a.pair.layout.seal (glob.section_bytes a.pair.values e s) at n spelled × (a.refusal spelled ≡ Some z)) → ⊥
       accepted sound entry z (spelled, frame, refused) =
-          let found = some_value (slice_get (list_of a.pair e s) p) (all_at (λ y. a.refusal y.value ≡ None) (λ y. (y.value ≡ bytes_at (glob.section_bytes a.pair.values e s) at (n - 4)) × (a.pair.layout.place y.stored ≡ (at, n))) (list_of a.pair e s) p (sound.decoded s) entry) in
+          let found = the_some (slice_get (list_of a.pair e s) p) (all_at (λ y. a.refusal y.value ≡ None) (λ y. (y.value ≡ bytes_at (glob.section_bytes a.pair.values e s) at (n - 4)) × (a.pair.layout.place y.stored ≡ (at, n))) (list_of a.pair e s) p (sound.decoded s) entry) in
           let is : found.0.value ≡ spelled = found.2.1.0 ∙ (frame_spells a.pair.layout.seal (glob.section_bytes a.pair.values e s) at n spelled (a.pair.layout.seal spelled) frame.inside frame.is).0 in
           cc (sym found.2.0, ap a.refusal is, refused)

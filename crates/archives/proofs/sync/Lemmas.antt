@@ -13,7 +13,6 @@ use Rattle.blob_device.proofs.Moments.{always_now, always_weaker}
 use Rattle.sealed_pages.specs.declared.page_blob.PageBlob.{PageBlob}
 use Rattle.sealed_pages.specs.declared.write_blob.WriteBlob.{WriteBlob}
 use Rattle.section_manager.specs.Sections.{section_key, IsHeld}
-use Rattle.section_manager.proofs.WalkLemmas.{none_or_value}
 use Rattle.value_codec.specs.declared.codec.Error as codec
 use Rattle.paired.specs.Crashes.{IsOwn, LeavesAlone}
 use Rattle.paired.specs.Crashes as pair
@@ -26,7 +25,7 @@ use Rattle.paired.specs.Places.{Follow}
 use Rattle.paired.specs.Records as stored
 use Rattle.paired.proofs.KeptLemmas.{follow_least}
 use Rattle.paired.proofs.pair.Reads.{index_size, leaves_now}
-use Rattle.paired.proofs.RecordLemmas.{all_by, length-records}
+use Rattle.paired.proofs.RecordLemmas.{length-records}
 use Rattle.archives.specs.Archives.{Archive, IsArchive, IsSoundArchive, LeavesNoForeign, filing_of, state_of}
 use Rattle.archives.specs.Filing.{filed}
 use Rattle.archives.specs.IndexRecord.{IsSpelled}
@@ -36,6 +35,8 @@ use Rattle.archives.specs.Standing.{Leaves}
 use Rattle.archives.proofs.ArchiveStands.{are_filed, glob_buffers, names_left, no_foreign, stands_at, stored_again, values_apart}
 use Rattle.archives.proofs.PuttingLemmas.{none_still}
 use Rattle.archives.proofs.StandLemmas.{keeps_stand}
+use Rattle.blob_device.proofs.general.Lists.{all_by}
+use Rattle.blob_device.proofs.general.Options.{none_or_value}
 
 -- places that follow each other end at one place only
 pub follow_one_end : (place : List ℕ → ℕ × ℕ) (rs : List (List ℕ)) (at m n : ℕ) → Follow place at rs m → Follow place at rs n → m ≡ n

@@ -14,7 +14,6 @@ use Rattle.section_manager.specs.Sections.{IsHeld, key_of}
 use Rattle.section_manager.specs.Setting.{Setting}
 use Rattle.section_manager.specs.unsealed.Buffer.{count_of, is_unsettled}
 use Rattle.section_manager.specs.unsealed.Laws.{counted, found_again, idle_parts}
-use Rattle.section_manager.proofs.WalkLemmas.{none_or_value}
 use Rattle.segments.specs.Tails.{tail_held}
 use Rattle.segments.specs.FixedLists as fixed
 use Rattle.paired.specs.glob.Sections as glob
@@ -22,6 +21,7 @@ use Rattle.paired.specs.Kept.{content_at}
 use Rattle.paired.specs.Opening.{as_read}
 use Rattle.paired.specs.Pair.{IsPair, Pair, length_of, synced_length}
 use Rattle.paired.proofs.GlobLemmas.{buffers}
+use Rattle.blob_device.proofs.general.Options.{none_or_value}
 
 -- what an option of a known value has
 some_has : {X : Type 0} (o : Option X) (x : X) (P : X → Type 0) → o ≡ Some x → IsSomeAnd o P → P x

@@ -8,9 +8,9 @@ use Rattle.std.specs.Ordering.{nat_cmp}
 use Rattle.std.specs.declared.cmp.Ordering.TheVariants.{Less}
 use Rattle.ordinal_store.specs.Numbers.{Set, AreMissing, AreRuns, AreRunsFrom, IsGreatest, IsLeast, IsMissing, IsNextRun, IsRun, IsRunEnd, IsSameSet}
 use Rattle.ordinal_store.specs.SetLaws.{HaveOneAnswer}
-use Rattle.ordinal_store.proofs.ranges.Compared.{lt_from_less}
 use Rattle.ordinal_store.proofs.ranges.Members.{IsRun-touching}
 use Rattle.ordinal_store.proofs.ranges.Spread.{above_first}
+use Rattle.blob_device.proofs.general.Numbers.{lt_from_less}
 
 -- ---- elements of a list
 one_of_none : {X : Type 0} (x : X) → ¬ Contains [] x

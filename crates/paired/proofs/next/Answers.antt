@@ -15,11 +15,9 @@ use Rattle.section_manager.specs.declared.unsealed.WriteFactory.{WriteFactory}
 use Rattle.section_manager.specs.Refusing.{HasDamage, HasFailed}
 use Rattle.section_manager.specs.Sections.{section_key, key_of, IsHeld}
 use Rattle.section_manager.specs.Setting.{Setting}
-use Rattle.section_manager.proofs.WalkLemmas.{none_or_value}
 use Rattle.segments.specs.FixedReading.{IsBelowFloor, HasNotRead}
 use Rattle.segments.specs.FixedReplay.{Walk, IsDrained, IsWalk, Replaying, EndsBelow, FindsDamage, kept_of, kept_bytes}
 use Rattle.segments.specs.FixedStepping.{way_of}
-use Rattle.segments.proofs.FixedWalks.{is_some}
 use Rattle.segments.proofs.FixedWriteLemmas.{ArePages}
 use Rattle.meta_store.specs.Store.{contents_of}
 use Rattle.paired.specs.Crashes.{IsIndexOf, IsValuesOf, Keeping}
@@ -38,6 +36,7 @@ use Rattle.paired.proofs.next.Went.{Went, none_as}
 use Rattle.paired.proofs.pair.Moments.{no_index}
 use Rattle.paired.proofs.pair.Synced.{Here}
 use Rattle.paired.proofs.ReplayLemmas.{Turns, given_stay}
+use Rattle.blob_device.proofs.general.Options.{none_or_value, some_there}
 
 module _ {F S : Type 0} {gs : _} (refusal : List ℕ → Unit {0} → Option codec.Error) (told : Type 0) (run x : Run F (PageBlob S gs)) (a e : Timeline) where
   -- what is kept of the images and the lists, whatever the answer
@@ -104,7 +103,7 @@ module _ {F S : Type 0} {gs : _} (g : buffer.Ghosts (PageBlob S gs)) (gives : F 
 
   records_now : told → HasLostNone now → (s : ℕ) → records_over now (disk e) s ≡ records_over run (disk a) s
   records_now t lost s = elim (none_or_value (w.journal.sections.held s)) [
-    | inr z ↦ records_held g gives told run pages before a here was w opened e went walk t (readable_end t) s (is_some (w.journal.sections.held s) z.0 z.1)
+    | inr z ↦ records_held g gives told run pages before a here was w opened e went walk t (readable_end t) s (some_there (w.journal.sections.held s) z.0 z.1)
     | inl none ↦ ap (records run.layout.record_size) (bare w (disk e) none ∙ sym (bare run.walk (disk a) (none_as (w.journal.sections.held s) (run.walk.journal.sections.held s) none (went.stays s (lost s)).1.1)))
   ]
     where

@@ -24,13 +24,10 @@ use Rattle.section_manager.specs.Refusing.{HasFailed}
 use Rattle.section_manager.specs.SealedLaws.{all_settled}
 use Rattle.section_manager.specs.Sections.{section_key, key_of}
 use Rattle.section_manager.specs.Setting.{Setting}
-use Rattle.section_manager.proofs.WalkLemmas.{none_or_value}
 use Rattle.segments.specs.FixedLists.{size_held}
 use Rattle.segments.specs.FixedReading.{IsBelowFloor, HasNotRead}
 use Rattle.segments.specs.FixedReplay.{Walk, IsWalk, EndsBelow, FindsDamage, Replaying, kept_of, kept_bytes}
 use Rattle.segments.proofs.FixedKept.{short_length, sealed_by_length, sealed_flushed}
-use Rattle.segments.proofs.FixedReading.{the_some}
-use Rattle.segments.proofs.FixedWalks.{is_some, some_of}
 use Rattle.segments.proofs.FixedWriteLemmas.{ArePages}
 use Rattle.meta_store.specs.Store.{contents_of}
 use Rattle.paired.specs.Kept.{content_at, stored_records}
@@ -44,6 +41,7 @@ use Rattle.paired.proofs.next.Went.{Went}
 use Rattle.paired.proofs.opening.Ends.{marked_is, marked_or_zero}
 use Rattle.paired.proofs.pair.Synced.{Here}
 use Rattle.paired.proofs.RecordLemmas.{length-records}
+use Rattle.blob_device.proofs.general.Options.{none_or_value, some_of, some_there, the_some}
 
 each_at : (P : List ℕ → Type 0) (rs : List (List ℕ)) (p : ℕ) → AllByRecursion P rs → p < length rs → P (get_or rs p [])
 each_at P [] p all lt = absurd (omega (arith, lt))
@@ -63,7 +61,7 @@ module _ {F S : Type 0} {gs : _} (g : buffer.Ghosts (PageBlob S gs)) (gives : F 
   key_here s = ap (λ (p : List ℕ). section_key p s) here.index
 
   number : (s : ℕ) (u : PageBlob S gs) → run.walk.journal.sections.held s ≡ Some u → s < 2 ^ 64
-  number s u held = was.index.over.opened_list.number s (inl (is_some (run.walk.journal.sections.held s) u held))
+  number s u held = was.index.over.opened_list.number s (inl (some_there (run.walk.journal.sections.held s) u held))
 
   paged : (s : ℕ) (u : PageBlob S gs) → run.walk.journal.sections.held s ≡ Some u → u.page_size ≡ run.layout.page_size
   paged s u held = sym (pages.page_size u) ∙ ap (λ (y : Setting). y.page_size) (was.index.over.opened_list.setting s u held) ∙ here.page_size
@@ -148,7 +146,7 @@ module _ {F S : Type 0} {gs : _} (g : buffer.Ghosts (PageBlob S gs)) (gives : F 
       let size : ℕ = run.layout.record_size in
       let z = the_some (w.journal.sections.held s) has.within in
       let page = the_some (w.journal.sections.held s) has.page in
-      let u = some_of (run.walk.journal.sections.held s) (((went.stays s (walk.over.opened_list.apart s (is_some (w.journal.sections.held s) z.0 z.1))).1).0 (is_some (w.journal.sections.held s) z.0 z.1)) in
+      let u = some_of (run.walk.journal.sections.held s) (((went.stays s (walk.over.opened_list.apart s (some_there (w.journal.sections.held s) z.0 z.1))).1).0 (some_there (w.journal.sections.held s) z.0 z.1)) in
       let free : run.walk.journal.unrecovered s ≡ false = sym (went.same.unrecovered s) ∙ has.free in
       let settled : u.0.settled ≡ size_of (shown u.0) = all_settled (shown u.0) (sym (pages.unsettled u.0) ∙ old.index_settled s u.0 u.1) in
       let now_key : key_of w.journal.sections s ≡ key_of run.walk.journal.sections s = ap (λ (p : List ℕ). section_key p s) went.same.bounds.place.partition in

@@ -15,14 +15,12 @@ use Rattle.section_manager.specs.declared.unsealed.WriteFactory.{WriteFactory}
 use Rattle.section_manager.specs.Refusing.{HasDamage, HasFailed}
 use Rattle.section_manager.specs.Sections.{section_key}
 use Rattle.section_manager.specs.Setting.{Setting}
-use Rattle.section_manager.proofs.WalkLemmas.{none_or_value}
 use Rattle.segments.specs.FixedItems.{IsItem}
 use Rattle.segments.specs.FixedLists.{section_size, size_held}
 use Rattle.segments.specs.FixedReading.{IsBelowFloor, HasNotRead}
 use Rattle.segments.specs.FixedReplay.{Walk, IsLeft, EndsBelow, FindsDamage, kept_bytes}
 use Rattle.segments.specs.FixedStepping.{way_of}
 use Rattle.segments.proofs.FixedReading.{not_read_since, failed_since}
-use Rattle.segments.proofs.FixedWalks.{is_some, some_of}
 use Rattle.segments.proofs.FixedWriteLemmas.{ArePages}
 use Rattle.paired.specs.Crashes.{IsIndexOf, IsValuesOf}
 use Rattle.paired.specs.glob.Sections.{IsGlob}
@@ -35,6 +33,7 @@ use Rattle.paired.proofs.next.Went.{Went, Goes, went_start, goes_start, went_the
 use Rattle.paired.proofs.pair.Synced.{Here}
 use Rattle.paired.proofs.RecordLemmas.{length-records}
 use Rattle.paired.proofs.ReplayLemmas.{given_stay, record_at}
+use Rattle.blob_device.proofs.general.Options.{none_or_value, some_of, some_there}
 
 -- an error of one call is one of another
 other_failed : {T U : Type 0} (r : Result T Error) (x : Error) → r ≡ Err x → (few many : ℕ) → HasFailed r few many → HasFailed {T = U} (Err x) few many
@@ -173,7 +172,7 @@ module _ {F S V : Type 0} {gs : _} (g : buffer.Ghosts (PageBlob S gs)) (gives : 
           shorter : (s : ℕ) → section_size w.journal.sections s ≤ section_size run.walk.journal.sections s
           shorter s = elim (none_or_value (w.journal.sections.held s)) [
             | inl none ↦ omega (arith, ap size_held none)
-            | inr z ↦ (let u = some_of (run.walk.journal.sections.held s) ((running.goes.held s).0 (is_some (w.journal.sections.held s) z.0 z.1)) in
+            | inr z ↦ (let u = some_of (run.walk.journal.sections.held s) ((running.goes.held s).0 (some_there (w.journal.sections.held s) z.0 z.1)) in
                 omega (arith, ap size_held z.1, ap size_held u.1, (running.went.floors s u.0 z.0 u.1 z.1).shorter))
           ]
 

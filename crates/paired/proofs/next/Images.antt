@@ -22,7 +22,6 @@ use Rattle.section_manager.specs.SealedLaws.{no_chance, all_settled}
 use Rattle.section_manager.specs.Sections.{section_key, key_of, IsHeld}
 use Rattle.section_manager.specs.Setting.{Setting}
 use Rattle.section_manager.proofs.sections.KeyLemmas.{key_injective}
-use Rattle.section_manager.proofs.WalkLemmas.{none_or_value}
 use Rattle.segments.specs.FixedReplay.{Walk, SameItems, Replaying}
 use Rattle.segments.proofs.FixedOwed.{same_items}
 use Rattle.segments.proofs.FixedWriteLemmas.{ArePages}
@@ -46,6 +45,7 @@ use Rattle.paired.proofs.pair.Moments.{no_index, copy_no_index}
 use Rattle.paired.proofs.pair.Synced.{Here}
 use Rattle.paired.proofs.ReplayLemmas.{records_of_items}
 use Rattle.paired.proofs.ReplayLemmasRecalls.{replaying_recalls}
+use Rattle.blob_device.proofs.general.Options.{none_or_value}
 
 -- a key is that of some section of the partition, or of none
 pub index_or_not : (l : Layout) (q : Key) → IsIndexOf l (λ _. ⊤) q ⊎ (IsIndexOf l (λ _. ⊤) q → ⊥)

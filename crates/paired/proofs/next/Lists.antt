@@ -12,10 +12,8 @@ use Rattle.section_manager.specs.declared.buffer.SectionBuffer as buffer
 use Rattle.section_manager.specs.declared.unsealed.WriteFactory.{WriteFactory}
 use Rattle.section_manager.specs.Sections.{section_key, key_of, IsHeld}
 use Rattle.section_manager.specs.Setting.{Setting}
-use Rattle.section_manager.proofs.WalkLemmas.{none_or_value}
 use Rattle.segments.specs.FixedLists as fixed
 use Rattle.segments.specs.FixedReplay.{Walk, Replaying}
-use Rattle.segments.proofs.FixedWalks.{is_some, some_of}
 use Rattle.segments.proofs.FixedWriteLemmas.{ArePages}
 use Rattle.meta_store.specs.Store.{contents_of}
 use Rattle.paired.specs.Crashes.{IsIndexOf, Keeping}
@@ -33,6 +31,7 @@ use Rattle.paired.proofs.pair.Blobs.{lasting_none}
 use Rattle.paired.proofs.pair.Facts.{Parts, facts_of, good_of, holding_of, lasting_held, unvalued, values_last}
 use Rattle.paired.proofs.pair.Moments.{index_phase, keeping_of, no_index}
 use Rattle.paired.proofs.pair.Synced.{Here}
+use Rattle.blob_device.proofs.general.Options.{none_or_value, some_of, some_there}
 
 module _ {F S : Type 0} {gs : _} (g : buffer.Ghosts (PageBlob S gs)) (gives : F → Setting) {takes : WriteFactory → Setting} (told : Type 0) (run : Run F (PageBlob S gs)) (pages_are : ArePages g run.layout.seal)
     (before : OpenedList) (a c : Timeline) (here : Here gives (pair_of run)) (was : IsRun run g gives buffers takes told before (disk a)) (w : Walk F (PageBlob S gs)) (went : Went run.layout.seal run.layout.record_size g told run.walk w a c) (t : told)
@@ -61,7 +60,7 @@ module _ {F S : Type 0} {gs : _} (g : buffer.Ghosts (PageBlob S gs)) (gives : F 
       ∙ elim (none_or_value (w.journal.sections.held s)) [
         | inl absent ↦ ap (λ (o : Option (PageBlob S gs)). fixed.bytes_held o (disk c (key_of run.walk.journal.sections s)).content) absent
             ∙ sym (ap (λ (o : Option (PageBlob S gs)). fixed.bytes_held o (disk a (key_of run.walk.journal.sections s)).content) (none_as (w.journal.sections.held s) (run.walk.journal.sections.held s) absent same.1))
-        | inr z ↦ (let u = some_of (run.walk.journal.sections.held s) (same.0 (is_some (w.journal.sections.held s) z.0 z.1)) in
+        | inr z ↦ (let u = some_of (run.walk.journal.sections.held s) (same.0 (some_there (w.journal.sections.held s) z.0 z.1)) in
             ap (λ (o : Option (PageBlob S gs)). fixed.bytes_held o (disk c (key_of run.walk.journal.sections s)).content) z.1
             ∙ (went.bytes s u.0 z.0 u.1 z.1 (free s)).bytes t
             ∙ sym (ap (λ (o : Option (PageBlob S gs)). fixed.bytes_held o (disk a (key_of run.walk.journal.sections s)).content) u.1))
@@ -135,7 +134,7 @@ module _ {F S : Type 0} {gs : _} (g : buffer.Ghosts (PageBlob S gs)) (gives : F 
     held_or_not : (s : ℕ) → IsHeld run.walk.journal.sections s ⊎ (IsHeld run.walk.journal.sections s → ⊥)
     held_or_not s = elim (none_or_value (run.walk.journal.sections.held s)) [
       | inl none ↦ inr (λ is. cc (subst IsSome none is))
-      | inr u ↦ inl (is_some (run.walk.journal.sections.held s) u.0 u.1)
+      | inr u ↦ inl (some_there (run.walk.journal.sections.held s) u.0 u.1)
     ]
 
     lasts : (d : Disk) → Each (Replaying run.layout.seal run.layout.record_size run.walk (disk a)) d → (s : ℕ) → s < 2 ^ 64 → IsHeld run.walk.journal.sections s → IsLasting run.layout (facts s) (d (section_key run.layout.index s))

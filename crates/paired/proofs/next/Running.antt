@@ -15,10 +15,8 @@ use Rattle.section_manager.specs.declared.unsealed.WriteFactory.{WriteFactory}
 use Rattle.section_manager.specs.SealedLaws.{no_chance}
 use Rattle.section_manager.specs.Sections.{section_key, key_of, IsHeld}
 use Rattle.section_manager.specs.Setting.{Setting}
-use Rattle.section_manager.proofs.WalkLemmas.{none_or_value}
 use Rattle.segments.specs.FixedLists.{section_size, size_held}
 use Rattle.segments.specs.FixedReplay.{Walk, IsAhead, IsIn, IsWalk, Replaying, kept_of, kept_bytes}
-use Rattle.segments.proofs.FixedWalks.{is_some, some_of}
 use Rattle.segments.proofs.FixedWriteLemmas.{ArePages}
 use Rattle.meta_store.specs.Blobs.{blob_of}
 use Rattle.meta_store.specs.declared.error.Side.{Side}
@@ -36,6 +34,7 @@ use Rattle.paired.proofs.pair.Sections.{other_partition}
 use Rattle.paired.proofs.pair.Synced.{Here, store_stays}
 use Rattle.paired.proofs.RecordLemmas.{records-front, records-enough, length-records}
 use Rattle.meta_store.specs.Store.{contents_of}
+use Rattle.blob_device.proofs.general.Options.{none_or_value, some_of, some_there}
 
 -- the run with another walk, other ends, and another end of its errors
 abbrev pub moved : {F B : Type 0} → Run F B → Walk F B → Limits → Option ℕ → Bool → Run F B
@@ -71,7 +70,7 @@ module _ {F S : Type 0} {gs : _} (g : buffer.Ghosts (PageBlob S gs)) (gives : F 
 
     -- the buffer that a section had
     pub had : (s : ℕ) (z : PageBlob S gs) → w.journal.sections.held s ≡ Some z → (u : PageBlob S gs) × (run.walk.journal.sections.held s ≡ Some u)
-    had s z held = (let is = is_some (w.journal.sections.held s) z held in some_of (run.walk.journal.sections.held s) ((still_known s is).0 is))
+    had s z held = (let is = some_there (w.journal.sections.held s) z held in some_of (run.walk.journal.sections.held s) ((still_known s is).0 is))
 
     -- ---- what is told
     module _ (t : told) (readable : (q : Key) → MayLeave (disk c q) (reads (disk c q))) where
@@ -111,7 +110,7 @@ module _ {F S : Type 0} {gs : _} (g : buffer.Ghosts (PageBlob S gs)) (gives : F 
               → place_end run.layout.place (get_or (records_over (moved run w ends ended failed) (disk c) s) (m - 1) []) ≤ glob.section_size run.values s
           bounded s m is some le = elim (none_or_value (w.journal.sections.held s)) [
             | inr z ↦
-                let same = records_held s (is_some (w.journal.sections.held s) z.0 z.1) in
+                let same = records_held s (some_there (w.journal.sections.held s) z.0 z.1) in
                 subst (λ (rs : List (List ℕ)). place_end run.layout.place (get_or rs (m - 1) []) ≤ glob.section_size run.values s) (sym same)
                 (vouched.bounded s m is some (subst (λ (rs : List (List ℕ)). m ≤ length rs) same le))
             | inl none ↦

@@ -19,9 +19,7 @@ use Rattle.section_manager.specs.Refusing.{HasFailed}
 use Rattle.section_manager.specs.Sections.{section_key, key_of, IsHeld}
 use Rattle.section_manager.specs.Setting.{Setting}
 use Rattle.section_manager.proofs.sections.KeyLemmas.{key_injective}
-use Rattle.section_manager.proofs.WalkLemmas.{none_or_value}
 use Rattle.segments.specs.FixedReplay.{Walk, IsLeft, IsWalk, Gives, Stops, kept_of, kept_bytes}
-use Rattle.segments.proofs.FixedWalks.{is_some, none_in}
 use Rattle.segments.proofs.FixedWriteLemmas.{ArePages}
 use Rattle.meta_store.specs.Blobs.{blob_of}
 use Rattle.meta_store.specs.declared.error.Side.{Side}
@@ -41,6 +39,7 @@ use Rattle.paired.proofs.pair.Sections.{glob_kept}
 use Rattle.paired.proofs.pair.Synced.{Here}
 use Rattle.paired.proofs.RecordLemmas.{length-records}
 use Rattle.paired.proofs.ReplayLemmas.{Turns, given_stay, due_after, due_skipped, due_after_stop, due_after_check, end_sorted, end_stopped, end_checked}
+use Rattle.blob_device.proofs.general.Options.{none_in, none_or_value, some_there}
 
 -- What sorting the record that was given says, of the replay m before it; `ends` and `ended` are those behind it.
 module _ {F S V : Type 0} {gs : _} (takes : WriteFactory → Setting) (told : Type 0) (m : Run F (PageBlob S gs)) (location : V → ℕ × ℕ) where
@@ -90,7 +89,7 @@ some_number s = (from_be_bytes w64 (to_be_bytes w64 s), omega arith, be_bytes_8 
 -- what is left of a section is of one that is held
 pub left_held : {F S : Type 0} {gs : _} (seal : List ℕ → ℕ) (size : ℕ) (w : Walk F (PageBlob S gs)) (d : Disk) (s p : ℕ) → 1 ≤ size → IsLeft seal size w d s p → IsHeld w.journal.sections s
 left_held {S = S} {gs = gs} seal size w d s p pos left = elim (none_or_value (w.journal.sections.held s)) [
-  | inr z ↦ is_some (w.journal.sections.held s) z.0 z.1
+  | inr z ↦ some_there (w.journal.sections.held s) z.0 z.1
   | inl none ↦
       let bare : length (kept_bytes seal size w d s) ≡ 0 = ap (λ (o : Option (PageBlob S gs)). length (kept_of seal (w.journal.unrecovered s) o (d (key_of w.journal.sections s)).content)) none in
       absurd (omega (arith, left.whole, pos, ap (λ (n : ℕ). n / size) bare))
@@ -144,7 +143,7 @@ module _ {F S V : Type 0} {gs : _} (g : buffer.Ghosts (PageBlob S gs)) (gives : 
 
     pub all_records : ((s : ℕ) → IsHeld w.journal.sections s ↔ IsHeld run.walk.journal.sections s) → (s : ℕ) → records run.layout.record_size (kept_bytes run.layout.seal run.layout.record_size w (disk c) s) ≡ records_over run (disk b) s
     all_records same s = elim (none_or_value (w.journal.sections.held s)) [
-      | inr z ↦ held_records s (is_some (w.journal.sections.held s) z.0 z.1)
+      | inr z ↦ held_records s (some_there (w.journal.sections.held s) z.0 z.1)
       | inl none ↦ ap (records run.layout.record_size) (bare w (disk c) none ∙ sym (bare run.walk (disk b) (none_as (w.journal.sections.held s) (run.walk.journal.sections.held s) none (same s).1)))
     ]
       where

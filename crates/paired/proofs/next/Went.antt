@@ -14,8 +14,9 @@ use Rattle.section_manager.specs.Setting.{Setting}
 use Rattle.section_manager.specs.Sections.{section_key, key_of, IsHeld, StandsOver}
 use Rattle.segments.specs.FixedReplay.{Walk, IsAhead, IsIn, SameWalk, SameItems, IsSameOrCut, KeepsSections, KeepsFloors, KeepsBytes, KeepsItems, IsWalk, WalksOver, Replaying, LeavesNoMore}
 use Rattle.segments.proofs.FixedOwed.{same_items, items_then, same_or_cut, cut_then}
-use Rattle.segments.proofs.FixedWalks.{is_some, same_some, some_of, same_bytes}
+use Rattle.segments.proofs.FixedWalks.{same_bytes}
 use Rattle.segments.proofs.FixedWalksOn.{replaying_start}
+use Rattle.blob_device.proofs.general.Options.{same_some, some_of, some_there}
 
 pub same_bool : (x y : Bool) → (x ≡ true → y ≡ true) → (y ≡ true → x ≡ true) → x ≡ y
 same_bool true true there back = refl
@@ -86,7 +87,7 @@ module _ {F S : Type 0} {gs : _} (seal : List ℕ → ℕ) (size : ℕ) (g : buf
     key s = ap (λ (p : List ℕ). section_key p s) first.same.bounds.place.partition
 
     between : (s : ℕ) (u : PageBlob S gs) → w.journal.sections.held s ≡ Some u → (y : PageBlob S gs) × (x.journal.sections.held s ≡ Some y)
-    between s u held = some_of (x.journal.sections.held s) ((goes.held s).1 (is_some (w.journal.sections.held s) u held))
+    between s u held = some_of (x.journal.sections.held s) ((goes.held s).1 (some_there (w.journal.sections.held s) u held))
 
     floors_then : KeepsFloors w v
     floors_then s u z held also =
@@ -180,7 +181,7 @@ module _ {F S : Type 0} {gs : _} (seal : List ℕ → ℕ) (size : ℕ) (g : buf
       opened_list = record {
         key = is.over.opened_list.key;
         setting = is.over.opened_list.setting;
-        is_open = λ s u held. subst (λ (o : Option Opened). IsSomeAnd o (λ p. p.len ≡ g.extent u)) (sym (opens s (is.over.opened_list.number s (inl (is_some (w.journal.sections.held s) u held))))) (is.over.opened_list.is_open s u held);
+        is_open = λ s u held. subst (λ (o : Option Opened). IsSomeAnd o (λ p. p.len ≡ g.extent u)) (sym (opens s (is.over.opened_list.number s (inl (some_there (w.journal.sections.held s) u held))))) (is.over.opened_list.is_open s u held);
         to_ceiling = is.over.opened_list.to_ceiling;
         apart = is.over.opened_list.apart;
         from_floor = is.over.opened_list.from_floor;

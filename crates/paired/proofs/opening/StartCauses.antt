@@ -4,7 +4,6 @@ use Rattle.std.proofs.Common.{inl, inr, ◌∙◌, ap, subst}
 use Rattle.std.specs.Result.{IsErrOf}
 use Rattle.blob_device.specs.Disk.{Disk}
 use Rattle.blob_device.specs.declared.runtime.RError.TheVariants.{Fault}
-use Rattle.blob_device.proofs.Results.{err_with}
 use Rattle.value_codec.specs.declared.codec.Error as codec
 use Rattle.meta_store.specs.Calls.{GaveUp}
 use Rattle.meta_store.specs.declared.error.Error as meta
@@ -21,6 +20,7 @@ use Rattle.paired.specs.OpeningFound.{HasCause}
 use Rattle.paired.specs.PairRefusing.{HasLostMarkers}
 use Rattle.paired.proofs.FailLemmas.{failed_as}
 use Rattle.paired.proofs.pair.Failing.{failed_before}
+use Rattle.blob_device.proofs.general.Results.{err_with}
 
 -- what an opening answers where it fails
 module _ {T : Type 0} (r : Result T Error) (a b : ℕ) where

@@ -17,7 +17,6 @@ use Rattle.section_manager.specs.Sealed.{adopted_bytes}
 use Rattle.section_manager.specs.SealedLaws.{counted}
 use Rattle.section_manager.specs.Sections.{Sections, section_key, key_of, IsHeld}
 use Rattle.section_manager.specs.Setting.{Setting}
-use Rattle.section_manager.proofs.WalkLemmas.{none_or_value}
 use Rattle.segments.specs.FixedLists.{Lists, section_bytes, section_size}
 use Rattle.segments.specs.FixedLists as fixed
 use Rattle.segments.specs.FixedReplay.{Begins}
@@ -32,6 +31,7 @@ use Rattle.paired.specs.OpeningRefusing.{EndsWithin, IsProved}
 use Rattle.paired.specs.Replaying.{Run, IsOpeningRun, marker}
 use Rattle.paired.proofs.opening.Start.{AlikeImage, kept_alike}
 use Rattle.paired.proofs.opening.StartRun.{all_due, floor_marker, marker_proved, none_checked, size_counted, vouched}
+use Rattle.blob_device.proofs.general.Options.{none_or_value}
 
 -- what holds of an answer that is Ok
 pub by_ok : {T E : Type 0} (r : Result T E) (P : T → Type 0) → ((v : T) → r ≡ Ok v → P v) → IfOk r P

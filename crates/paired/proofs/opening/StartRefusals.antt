@@ -1,5 +1,5 @@
 -- Why an opening refuses, against a lawful image: the last record below a marker, and no marker of a lawful image is refused.
-use Rattle.std.specs.Prelude.{◌≡◌, ◌⊎◌, ℕ, zero, suc, ◌+◌, ◌-◌, ◌*◌, ◌/◌, ◌%◌, ◌^◌, ◌<◌, ◌≤◌, cond, Bool, true, false, List, [], ◌∷◌, length, take, get_or, IsTrue, IsSome, IfSome, Option, None, Some, unwrap_or}
+use Rattle.std.specs.Prelude.{◌≡◌, ◌⊎◌, ℕ, zero, suc, ◌+◌, ◌-◌, ◌*◌, ◌/◌, ◌%◌, ◌^◌, ◌<◌, ◌≤◌, cond, Bool, true, false, List, [], length, take, get_or, IsTrue, IsSome, IfSome, Option, None, Some, unwrap_or}
 use Rattle.std.proofs.Common.{inl, inr, refl, sym, ◌∙◌, ap, subst, arith, length-take-le}
 use Rattle.std.specs.Int.{w64, to_be_bytes}
 use Rattle.std.specs.List.{AllByRecursion}
@@ -14,11 +14,10 @@ use Rattle.sealed_pages.specs.View.{view}
 use Rattle.sealed_pages.proofs.adopted.Adopt.{best_length, length-data_from}
 use Rattle.sealed_pages.proofs.looking.Looking.{page_places}
 use Rattle.sealed_pages.proofs.Reaching.{prefix_size, size_at_most}
-use Rattle.sealed_pages.proofs.slots.SlotLemmas.{slot_length-le, slot_stands, times_next, times_page}
+use Rattle.sealed_pages.proofs.slots.SlotLemmas.{slot_length-le, slot_stands, times_page}
 use Rattle.value_codec.specs.declared.codec.Error as codec
 use Rattle.section_manager.specs.declared.journal.Damage.{Damage}
 use Rattle.section_manager.specs.Sections.{section_key}
-use Rattle.section_manager.proofs.WalkLemmas.{value_of}
 use Rattle.segments.specs.FixedFloors.{IsRefused}
 use Rattle.segments.specs.FixedItems.{item_count, item_at}
 use Rattle.segments.proofs.FixedKept.{item_kept, prefix_data}
@@ -32,17 +31,15 @@ use Rattle.paired.proofs.BoundaryLemmas.{content_there}
 use Rattle.paired.proofs.KeptLemmas.{EndsBy, follow_ends, sound_parts}
 use Rattle.paired.proofs.opening.Start.{index_reads}
 use Rattle.paired.proofs.RecordLemmas.{length-records}
+use Rattle.blob_device.proofs.general.Numbers.{times_next}
+use Rattle.blob_device.proofs.general.Options.{value_of}
+use Rattle.blob_device.proofs.general.Lists.{all_at}
 
 -- ---- the last record
 each_at : {X : Type 0} (x : X) (n : ℕ) (f : ℕ → X) (i : ℕ) → i < n → get_or (each_below n f) i x ≡ f i
 each_at x zero f i lt = absurd (omega (arith, lt))
 each_at x (suc n) f zero lt = refl
 each_at x (suc n) f (suc i) lt = each_at x n (λ j. f (j + 1)) i (omega (arith, lt)) ∙ (let e : i + 1 ≡ suc i = omega arith in ap f e)
-
-pub all_at : {X : Type 0} (P : X → Type 0) (x : X) (xs : List X) → AllByRecursion P xs → (i : ℕ) → i < length xs → P (get_or xs i x)
-all_at P x [] all i lt = absurd (omega (arith, lt))
-all_at P x (y ∷ xs) all zero lt = all.0
-all_at P x (y ∷ xs) all (suc i) lt = all_at P x xs all.1 i (omega (arith, lt))
 
 -- so many records end by the length of the bytes
 pub records_end : (size n : ℕ) (bytes : List ℕ) → n ≤ length (records size bytes) → n * size ≤ length bytes

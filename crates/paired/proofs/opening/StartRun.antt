@@ -16,7 +16,6 @@ use Rattle.value_codec.specs.declared.codec.Error as codec
 use Rattle.section_manager.specs.declared.journal.Damage.{Damage}
 use Rattle.section_manager.specs.Sealed.{adopted_bytes}
 use Rattle.section_manager.specs.Sections.{section_key, key_of, IsHeld}
-use Rattle.section_manager.proofs.WalkLemmas.{none_or_value}
 use Rattle.segments.specs.FixedFloors.{IsRefused}
 use Rattle.segments.specs.FixedReplay.{Begins, IsLeft, kept_bytes, kept_of}
 use Rattle.segments.proofs.FixedKept.{prefix_data}
@@ -31,6 +30,7 @@ use Rattle.paired.proofs.opening.Ends.{marked_is}
 use Rattle.paired.proofs.opening.StartRefusals.{last_is_record, records_end}
 use Rattle.paired.proofs.pair.Synced.{unmarked_zero}
 use Rattle.paired.proofs.RecordLemmas.{front-take, length-records}
+use Rattle.blob_device.proofs.general.Options.{none_or_value}
 
 -- the floor that a map gives is the marker, where it has the markers
 pub floor_marker : (es : MarkerMap) (floors : ℕ → Option ℕ) → ((s m : ℕ) → (floors s ≡ Some m) ↔ IsMarked es s m) → (s : ℕ) → unwrap_or (floors s) 0 ≡ marker_of es s

@@ -9,8 +9,9 @@ use Rattle.paired.specs.Opening.{IsLawful}
 use Rattle.paired.specs.Openings.{some_sound, up_to_last, within, lowered, inferred, inferred_at_most, checkpointed, tracked, tracked_at_most, KeepsFirst}
 use Rattle.paired.specs.Records.{front}
 use Rattle.paired.proofs.KeptLemmas.{stored_entries}
-use Rattle.paired.proofs.RecordLemmas.{all_take, front-take}
+use Rattle.paired.proofs.RecordLemmas.{front-take}
 use Rattle.paired.proofs.opening.Ends.{front_lower, front_of_first, sound_below}
+use Rattle.blob_device.proofs.general.Lists.{all_take}
 
 -- ---- the first ones
 first_of_first : {X : Type 0} (last found list : List X) → last ≡ take (length last) found → found ≡ take (length found) list → last ≡ take (length last) list

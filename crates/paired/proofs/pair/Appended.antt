@@ -24,7 +24,6 @@ use Rattle.section_manager.specs.Sections.{Sections, section_key, key_of, IsHeld
 use Rattle.section_manager.specs.Setting.{Setting}
 use Rattle.section_manager.specs.unsealed.Buffer.{content_of}
 use Rattle.section_manager.proofs.sections.KeyLemmas.{keys_differ}
-use Rattle.section_manager.proofs.WalkLemmas.{none_or_value}
 use Rattle.segments.specs.FixedLasting.{IsBeginning as IsBeginningIndex}
 use Rattle.segments.specs.FixedLists.{Lists, IsJournal}
 use Rattle.segments.specs.FixedLists as fixed
@@ -52,6 +51,7 @@ use Rattle.paired.proofs.pair.Calls.{append_values, append_held, append_made}
 use Rattle.paired.proofs.pair.Facts.{proven_of, Parts, facts_of, settled_held, not_there, unheld, values_within, good_of, whole_of, few_of, tight_of, no_records_left, holding_of, glob_outlasts}
 use Rattle.paired.proofs.pair.Moments.{Stays, keeping_of}
 use Rattle.meta_store.specs.Store.{contents_of}
+use Rattle.blob_device.proofs.general.Options.{none_or_value}
 
 -- A pair's parts are where its layout says, and its index is made of page blobs under its seal.
 pub record IsLaid {F S : Type 0} {gs : _} (g : buffer.Ghosts (PageBlob S gs)) (gives : F → Setting) (p : Pair F (PageBlob S gs)) : Type 0 where

@@ -8,16 +8,17 @@ use Rattle.std.proofs.Math.Nat.{div-add-mod}
 use Rattle.std.proofs.Math.Seq.{take-length, take-append_seam, drop-append_seam, drop-append-add}
 use Rattle.section_manager.specs.Fronts.{IsFront}
 use Rattle.segments.specs.FixedItems.{item_at}
-use Rattle.segments.proofs.FixedKept.{last_place}
 use Rattle.paired.specs.Frames.{bytes_at, frame}
 use Rattle.paired.specs.Places.{Follow, end_of}
 use Rattle.paired.specs.Records.{Entry, each_below, records, is_sound, entry_of}
 use Rattle.paired.specs.Kept.{Layout}
 use Rattle.paired.specs.Holding.{Facts, list_in, AreGood}
 use Rattle.paired.proofs.FrameLemmas.{bytes_at-added, length-frame}
-use Rattle.paired.proofs.RecordLemmas.{each_below-same, item_ends, all_by, map-same}
+use Rattle.paired.proofs.RecordLemmas.{each_below-same, map-same}
 use Rattle.paired.proofs.KeptLemmas.{sound_parts, sound_from, sound_settled, entry_same}
 use Rattle.paired.proofs.pair.Holding.{IsMore}
+use Rattle.blob_device.proofs.general.Lists.{all_by}
+use Rattle.blob_device.proofs.general.Numbers.{item_ends, last_place}
 
 each_below-push : {X : Type 0} (n : ℕ) (f : ℕ → X) → each_below (suc n) f ≡ each_below n f ++ f n ∷ []
 each_below-push zero f = refl

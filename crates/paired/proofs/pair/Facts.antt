@@ -16,10 +16,8 @@ use Rattle.section_manager.specs.Setting.{Setting}
 use Rattle.section_manager.specs.unsealed.Buffer.{content_of}
 use Rattle.section_manager.specs.unsealed.Laws.{passes, counted, settled_within}
 use Rattle.section_manager.specs.SealedLaws.{counted as index_counted}
-use Rattle.section_manager.proofs.WalkLemmas.{none_or_value}
 use Rattle.segments.specs.FixedLists.{Lists, IsProven, IsJournal}
 use Rattle.segments.specs.FixedLists as fixed
-use Rattle.segments.proofs.FixedCutLemmas.{no_rest}
 use Rattle.value_codec.specs.declared.key.Key8.{Key8}
 use Rattle.meta_store.specs.declared.copy.CopyText.{CopyText}
 use Rattle.meta_store.specs.declared.copy.CopyText.TheVariants.{Absent}
@@ -45,6 +43,8 @@ use Rattle.paired.proofs.RecordLemmas.{length-records}
 use Rattle.paired.proofs.pair.Blobs.{values_of, lasting_none}
 use Rattle.paired.proofs.pair.Holding.{no_bytes}
 use Rattle.meta_store.specs.Pairs.{empty_map}
+use Rattle.blob_device.proofs.general.Numbers.{no_rest}
+use Rattle.blob_device.proofs.general.Options.{none_or_value}
 
 -- a section that is neither held nor known has no blob that is there
 pub not_there : {F B : Type 0} {g : buffer.Ghosts B} {gives : F → Setting} {told : Type 0} (m : Sections F B) (opened : OpenedList) (d : Disk) → IsOver g gives told m opened d → told

@@ -3,7 +3,6 @@ use Rattle.std.proofs.Common.{◌≡◌, ◌⊎◌, inl, inr, ℕ, ◌<◌, ◌�
 use Rattle.std.specs.Result.{IsErrOf}
 use Rattle.blob_device.specs.Counts.{Rose}
 use Rattle.blob_device.specs.declared.runtime.RError.TheVariants.{Fault}
-use Rattle.blob_device.proofs.Results.{err_with}
 use Rattle.meta_store.specs.Calls.{GaveUp}
 use Rattle.meta_store.specs.declared.error.Error as meta
 use Rattle.meta_store.specs.declared.error.Error.TheVariants as store
@@ -13,6 +12,7 @@ use Rattle.section_manager.specs.declared.journal.Error.{Error}
 use Rattle.section_manager.specs.declared.journal.Error.TheVariants.{Full}
 use Rattle.section_manager.specs.Refusing.{HasFailed, IsPruned}
 use Rattle.paired.specs.PairRefusing.{HasLostMarkers}
+use Rattle.blob_device.proofs.general.Results.{err_with}
 
 -- a count that rose since a later moment rose since an earlier one
 pub rose_before : (a b c : ℕ) → a ≤ b → Rose b c → Rose a c

@@ -16,7 +16,6 @@ use Rattle.section_manager.specs.Raised.{raised_metadata}
 use Rattle.section_manager.specs.Refusing.{HasFailed, IsPruned}
 use Rattle.section_manager.specs.Sections.{Sections, section_key, key_of, IsHeld, IsSynced}
 use Rattle.section_manager.specs.Setting.{Setting}
-use Rattle.section_manager.proofs.WalkLemmas.{none_or_value, value_of}
 use Rattle.segments.specs.FixedLists.{Lists}
 use Rattle.meta_store.specs.declared.error.Error as meta
 use Rattle.meta_store.specs.declared.error.Side.{Side}
@@ -33,6 +32,7 @@ use Rattle.paired.proofs.pair.Removed.{stands_stays}
 use Rattle.paired.proofs.pair.Sections.{other_partition, IndexSynced, ValuesSynced}
 use Rattle.paired.proofs.pair.Synced.{Here}
 use Rattle.meta_store.specs.declared.copy.Contents.{Contents}
+use Rattle.blob_device.proofs.general.Options.{none_or_value, value_of}
 
 abbrev answer : (T : Type 0) → Error → Result T Error
 answer T e = Err e

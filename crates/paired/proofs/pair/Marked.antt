@@ -12,7 +12,6 @@ use Rattle.section_manager.specs.declared.buffer.SectionBuffer as buffer
 use Rattle.section_manager.specs.declared.unsealed.WriteFactory.{WriteFactory}
 use Rattle.section_manager.specs.Sections.{section_key, key_of, IsHeld}
 use Rattle.section_manager.specs.Setting.{Setting}
-use Rattle.section_manager.proofs.WalkLemmas.{none_or_value}
 use Rattle.segments.specs.FixedLists as fixed
 use Rattle.value_codec.specs.declared.key.Key8.{Key8}
 use Rattle.meta_store.specs.Blobs.{other_side}
@@ -34,6 +33,7 @@ use Rattle.paired.proofs.pair.Holding.{leaves_of}
 use Rattle.paired.proofs.pair.Stays.{journal_stays}
 use Rattle.paired.proofs.pair.Sections.{glob_kept}
 use Rattle.paired.proofs.pair.Synced.{Here, made, pair_as}
+use Rattle.blob_device.proofs.general.Options.{none_or_value}
 
 -- ---- a number below a bound
 pub search_below : (Q : ℕ → Type 0) → ((s : ℕ) → Q s ⊎ (Q s → ⊥)) → (n : ℕ) → ((s : ℕ) × (s < n) × Q s) ⊎ ((s : ℕ) → s < n → Q s → ⊥)
@@ -310,9 +310,6 @@ module _ {F S : Type 0} {gs : _} (p q : Pair F (PageBlob S gs)) (IsNamed IsActiv
   moving_before s (small, not, inr differs) = (small, not, inr ((λ never. never), λ same. differs.1 (sym (others s differs.0) ∙ same ∙ marker_same s)))
 
 -- ---- of an answer
-pub if_ok : {T E : Type 0} (r : Result T E) (P Q : T → Type 0) → ((v : T) → P v → Q v) → IfOk r P → IfOk r Q
-if_ok (Ok v) P Q more is = more v is
-if_ok (Err e) P Q more is = tt
 
 pub if_both : {T E : Type 0} (r : Result T E) (P Q R : T → Type 0) → ((v : T) → P v → Q v → R v) → IfOk r P → IfOk r Q → IfOk r R
 if_both (Ok v) P Q R more is also = more v is also

@@ -4,7 +4,6 @@ use Rattle.std.specs.Option.{ok_or}
 use Rattle.std.specs.Result.{IsErr, IsErrOf}
 use Rattle.blob_device.specs.Disk.{Key}
 use Rattle.blob_device.specs.Opened.{OpenedList}
-use Rattle.blob_device.proofs.Results.{err_with}
 use Rattle.sealed_pages.specs.declared.page_blob.PageBlob.{PageBlob}
 use Rattle.sealed_pages.specs.Entries.{ReadsAtMost}
 use Rattle.section_manager.specs.declared.journal.Error.{Error}
@@ -16,6 +15,7 @@ use Rattle.segments.specs.FixedReading.{IsAbsent, HasNotRead}
 use Rattle.paired.specs.PairRefusing.{HasLostMarkers}
 use Rattle.paired.proofs.FailLemmas.{failed_as}
 use Rattle.paired.proofs.pair.Failing.{failed_before}
+use Rattle.blob_device.proofs.general.Results.{err_with}
 
 -- nothing is said of the value of a call that failed
 pub no_value : {T E : Type 0} (P : T → Type 0) (r : Result T E) → IsErr r → IfOk r P

@@ -12,7 +12,6 @@ use Rattle.std.proofs.Math.Seq.{take-append_seam, drop-append_seam}
 use Rattle.blob_device.specs.Disk.{Key, Blob, Disk}
 use Rattle.blob_device.specs.Opened.{Opened, OpenedList}
 use Rattle.blob_device.proofs.Puts.{same_or_other}
-use Rattle.blob_device.proofs.Results.{if_ok_with}
 use Rattle.sealed_pages.specs.declared.page_blob.PageBlob.{PageBlob}
 use Rattle.sealed_pages.specs.declared.write_blob.WriteBlob.{WriteBlob}
 use Rattle.sealed_pages.specs.Buffer.{size_of, bytes_of}
@@ -31,7 +30,6 @@ use Rattle.section_manager.specs.Sections.{Sections, key_of, IsHeld, IsOver}
 use Rattle.section_manager.specs.Setting.{Setting}
 use Rattle.section_manager.specs.declared.unsealed.WriteFactory.{WriteFactory}
 use Rattle.section_manager.specs.unsealed.Buffer.{count_of}
-use Rattle.section_manager.proofs.WalkLemmas.{none_or_value}
 use Rattle.segments.specs.FixedItems.{item_count, item_at, IsItem}
 use Rattle.segments.specs.FixedLists as fixed
 use Rattle.segments.specs.FixedReading.{IsAbsent, IsPast, IsDamaged, HasNotRead}
@@ -46,13 +44,15 @@ use Rattle.paired.specs.glob.Sections as glob
 use Rattle.paired.specs.Pair.{Pair, IsPair, IsPairOn, IsSoundOn, list_of, length_of, synced_length, IsSafeOn}
 use Rattle.paired.specs.Places.{Follow}
 use Rattle.paired.specs.Records.{Entry, each_below, records, entries_of, entry_of, is_sound}
-use Rattle.paired.proofs.CallLemmas.{some_held, held_some}
+use Rattle.paired.proofs.CallLemmas.{held_some}
 use Rattle.paired.proofs.FrameLemmas.{length-with_number, length-bytes_at}
 use Rattle.paired.proofs.GlobLemmas.{buffers, glob_stays, section_counted}
 use Rattle.paired.proofs.KeptLemmas.{sound_parts}
 use Rattle.paired.proofs.pair.Facts.{proven_of, Parts, facts_of, good_of, holding_of}
 use Rattle.paired.proofs.pair.Holding.{leaves_of}
 use Rattle.paired.proofs.RecordLemmas.{length-records}
+use Rattle.blob_device.proofs.general.Options.{none_or_value, some_there}
+use Rattle.blob_device.proofs.general.Results.{if_ok_with}
 
 slice_get-each_below : {X : Type 0} (n : ℕ) (f : ℕ → X) (p : ℕ) → p < n → slice_get (each_below n f) p ≡ Some (f p)
 slice_get-each_below zero f p lt = absurd (omega (arith, lt))
@@ -339,7 +339,7 @@ reads_none n k old new same = subst (λ (o : OpenedList). ReadsAtMost n k old o)
 pub may_read : {F B : Type 0} (m : Sections F B) (s n : ℕ) (k : Key) (old new : OpenedList) → (IsHeld m s → ReadsAtMost n k old new) → (m.held s ≡ None → new ≡ old) → ReadsAtMost n k old new
 may_read m s n k old new reads idle = elim (none_or_value (m.held s)) [
   | inl none ↦ reads_none n k old new (idle none)
-  | inr some ↦ reads (some_held (m.held s) some.0 some.1)
+  | inr some ↦ reads (some_there (m.held s) some.0 some.1)
 ]
 
 -- A pair stays what it is where one blob alone was read.

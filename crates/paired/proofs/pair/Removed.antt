@@ -16,7 +16,6 @@ use Rattle.section_manager.specs.declared.buffer.SectionBuffer as buffer
 use Rattle.section_manager.specs.declared.unsealed.WriteFactory.{WriteFactory}
 use Rattle.section_manager.specs.Sections.{Sections, section_key, key_of, IsHeld, IsSection, IsGone, IsSame}
 use Rattle.section_manager.specs.Setting.{Setting}
-use Rattle.section_manager.proofs.WalkLemmas.{none_or_value}
 use Rattle.segments.specs.FixedLists.{Lists, IsJournal}
 use Rattle.segments.specs.FixedLists as fixed
 use Rattle.value_codec.specs.Keys.{key8_bytes}
@@ -36,6 +35,7 @@ use Rattle.paired.specs.Places.{Follow, end_of}
 use Rattle.paired.specs.Records.{records, entries_of, is_sound}
 use Rattle.paired.proofs.RecordLemmas.{length-records}
 use Rattle.meta_store.specs.declared.copy.Contents.{Contents}
+use Rattle.blob_device.proofs.general.Options.{none_or_value}
 
 -- ---- markers below a bound
 -- a section has a marker, or none

@@ -15,7 +15,6 @@ use Rattle.section_manager.specs.Sections.{Sections, section_key, key_of, IsHeld
 use Rattle.section_manager.specs.Setting.{Setting}
 use Rattle.section_manager.proofs.sections.KeyLemmas.{key_injective}
 use Rattle.section_manager.proofs.sections.RemoveLemmas.{gone_unknown}
-use Rattle.section_manager.proofs.WalkLemmas.{none_or_value}
 use Rattle.segments.specs.FixedLists.{Lists}
 use Rattle.value_codec.specs.declared.key.Key8.{Key8}
 use Rattle.meta_store.specs.declared.error.Side.{Side}
@@ -35,6 +34,7 @@ use Rattle.paired.proofs.GlobLemmas.{buffers}
 use Rattle.paired.proofs.pair.Calls.{sync_markers, remove_records, remove_values}
 use Rattle.paired.proofs.pair.Facts.{proven_of, Parts, facts_of, good_of, holding_of}
 use Rattle.meta_store.specs.declared.copy.Contents.{Contents}
+use Rattle.blob_device.proofs.general.Options.{none_or_value}
 
 -- no blob that Q names changed, at no moment
 abbrev pub Untouched : (Key → Type 0) → Timeline → Timeline → Type 0

@@ -11,13 +11,13 @@ use Rattle.section_manager.specs.declared.buffer.SectionBuffer as buffer
 use Rattle.section_manager.specs.Sections.{Sections, section_key, key_of, IsHeld, IsKeyOf, SameBounds, IsSynced}
 use Rattle.section_manager.specs.Setting.{Setting}
 use Rattle.section_manager.proofs.sections.KeyLemmas.{key_injective}
-use Rattle.section_manager.proofs.WalkLemmas.{none_or_value, value_of, some_same}
 use Rattle.segments.specs.FixedLists.{Lists}
 use Rattle.segments.specs.FixedLists as fixed
 use Rattle.segments.proofs.FixedWriteLemmas.{ArePages}
 use Rattle.paired.specs.glob.Sections.{IsGlob}
 use Rattle.paired.specs.glob.Sections as glob
 use Rattle.paired.proofs.GlobLemmas.{buffers, glob_stays}
+use Rattle.blob_device.proofs.general.Options.{none_or_value, some_same, value_of}
 
 -- a key of another partition is of none of the sections
 pub other_partition : {F B : Type 0} (m : Sections F B) (P : ℕ → Type 0) (partition : List ℕ) (q : Key) → m.partition ≡ partition → q.0 ≢ partition → IsKeyOf m P q → ⊥

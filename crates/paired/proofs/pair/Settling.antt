@@ -14,7 +14,6 @@ use Rattle.section_manager.specs.Sections.{Sections, section_key, key_of, IsHeld
 use Rattle.section_manager.specs.Setting.{Setting}
 use Rattle.section_manager.specs.unsealed.Buffer.{content_of}
 use Rattle.section_manager.proofs.sections.KeyLemmas.{key_injective}
-use Rattle.section_manager.proofs.WalkLemmas.{none_or_value, value_of}
 use Rattle.segments.specs.FixedLasting as fixed
 use Rattle.segments.specs.FixedLists.{Lists, IsJournal}
 use Rattle.segments.proofs.FixedWriteLemmas.{ArePages}
@@ -35,6 +34,7 @@ use Rattle.paired.proofs.pair.Facts.{proven_of, facts_of, lasting_held, values_h
 use Rattle.paired.proofs.pair.Holding.{leaves_list}
 use Rattle.paired.proofs.pair.Sections.{IndexSynced, ValuesSynced}
 use Rattle.paired.proofs.pair.Synced.{Here}
+use Rattle.blob_device.proofs.general.Options.{none_or_value, value_of}
 
 -- an unsettled section is held
 pub unsettled_held : {F : Type 0} (m : Sections F WriteBlob) (s : ℕ) → glob.IsUnsettled m s → IsHeld m s

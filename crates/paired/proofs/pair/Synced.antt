@@ -17,7 +17,6 @@ use Rattle.section_manager.specs.declared.sealed.AppendFactory.{AppendFactory}
 use Rattle.section_manager.specs.declared.unsealed.WriteFactory.{WriteFactory}
 use Rattle.section_manager.specs.Sections.{Sections, section_key, key_of, IsHeld, IsKeyOf}
 use Rattle.section_manager.specs.Setting.{Setting}
-use Rattle.section_manager.proofs.WalkLemmas.{none_or_value, value_of}
 use Rattle.segments.specs.FixedLists.{Lists, IsJournal}
 use Rattle.segments.specs.FixedLists as fixed
 use Rattle.segments.proofs.FixedWriteLemmas.{ArePages}
@@ -44,6 +43,7 @@ use Rattle.paired.proofs.tracking.Lemmas.{Noted}
 use Rattle.paired.proofs.pair.Stays.{journal_stays}
 use Rattle.paired.proofs.pair.Sections.{other_partition, glob_kept, IndexSynced, ValuesSynced, index_blob, index_held, index_none, index_size, index_bytes, index_settled, values_held_same, values_size, values_settled}
 use Rattle.meta_store.specs.declared.copy.Contents.{Contents}
+use Rattle.blob_device.proofs.general.Options.{none_or_value, value_of}
 
 -- ---- markers and places
 abbrev found_for : MarkerMap → ℕ → Option ℕ

@@ -13,7 +13,6 @@ use Rattle.section_manager.specs.Lasting.{EntriesLeave}
 use Rattle.section_manager.specs.Sections.{Sections, section_key, key_of, IsHeld, IsKeyOf}
 use Rattle.section_manager.specs.Setting.{Setting}
 use Rattle.section_manager.proofs.sections.KeyLemmas.{key_injective}
-use Rattle.section_manager.proofs.WalkLemmas.{none_or_value}
 use Rattle.segments.specs.FixedLists.{Lists}
 use Rattle.segments.specs.FixedLists as fixed
 use Rattle.segments.specs.FixedReplay.{Walk, IsDrained}
@@ -38,6 +37,7 @@ use Rattle.paired.proofs.reconcile.Start.{Drained, GaveBack, opening, back_rests
 use Rattle.paired.proofs.Ends.{RecordsCut, ValuesCut, ValuesRemoved, not_of_none}
 use Rattle.paired.proofs.reconcile.Stages.{Joint}
 use Rattle.paired.proofs.reconcile.Pair.{Notes, pair_with}
+use Rattle.blob_device.proofs.general.Options.{none_or_value}
 
 -- ---- the replay at its end
 pub run_here : {I V S C : Type 0} {fixed codec seal : _} (place : List ℕ → ℕ × ℕ) (r : Replay I V S C fixed codec seal) → 1 ≤ fixed.SIZE → Here page_setting (pair_of (run_of place r))

@@ -1,13 +1,11 @@
 -- What the end of an opening answers where one of its calls failed.
-use Rattle.std.proofs.Common.{◌≡◌, ◌↔◌, ◌⊎◌, inl, inr, ℕ, zero, suc, ◌∷◌, ◌+◌, ◌-◌, ◌*◌, ◌/◌, ◌^◌, ◌<◌, ◌≤◌, min, take, unwrap_or, List, [], length, get_or, Option, Result, Ok, Err, IfOk, OnOk, OnErr, sym, ◌∙◌, ap, subst, arith, length-take}
-use Rattle.std.specs.List.{AllByRecursion}
+use Rattle.std.proofs.Common.{◌≡◌, ◌↔◌, ◌⊎◌, inl, inr, ℕ, ◌+◌, ◌-◌, ◌*◌, ◌/◌, ◌^◌, ◌<◌, ◌≤◌, min, take, unwrap_or, List, [], length, get_or, Option, Result, Ok, Err, IfOk, OnOk, OnErr, sym, ◌∙◌, ap, subst, arith, length-take}
 use Rattle.std.specs.Result.{IsErrOf}
 use Rattle.std.proofs.lemmas.Bool.{cases_lt}
 use Rattle.std.proofs.lemmas.List.{get_or-take, take_all}
 use Rattle.std.proofs.lemmas.Nat.{le-div}
 use Rattle.blob_device.specs.Disk.{Disk}
 use Rattle.blob_device.specs.Opened.{OpenedList}
-use Rattle.blob_device.proofs.Results.{err_with}
 use Rattle.blob_device.specs.declared.runtime.RError.TheVariants.{InvalidChecksum}
 use Rattle.sealed_pages.specs.declared.page_blob.PageBlob.{PageBlob}
 use Rattle.sealed_pages.specs.Shown.{shown}
@@ -20,7 +18,6 @@ use Rattle.section_manager.specs.Refusing.{HasDamage, HasFailed}
 use Rattle.section_manager.specs.Sections.{key_of}
 use Rattle.section_manager.specs.SealedLaws.{counted as index_counted}
 use Rattle.section_manager.specs.Setting.{Setting}
-use Rattle.section_manager.proofs.WalkLemmas.{none_or_value}
 use Rattle.segments.specs.FixedLists.{Lists}
 use Rattle.segments.specs.FixedLists as fixed
 use Rattle.segments.specs.FixedReading.{HasNotRead}
@@ -39,6 +36,8 @@ use Rattle.paired.proofs.opening.Ends.{marked_is, marked_or_zero}
 use Rattle.paired.proofs.pair.Failing.{failed_before}
 use Rattle.paired.proofs.RecordLemmas.{last_end_at, length-records, no_end}
 use Rattle.paired.proofs.reconcile.Start.{Drained, GaveBack, opening, none_left, walk_unfailed, end_of, given_all, given_to, given_good, over_records}
+use Rattle.blob_device.proofs.general.Options.{none_or_value}
+use Rattle.blob_device.proofs.general.Results.{err_with}
 
 abbrev answer : (T : Type 0) → Error → Result T Error
 answer T e = Err e
@@ -155,10 +154,6 @@ replay_or_not r P Q R never no_p no_q no_r = (
 )
 
 -- ---- what the disk excludes
-pub each_at : {X : Type 0} (P : X → Type 0) (xs : List X) (p : ℕ) (d : X) → AllByRecursion P xs → p < length xs → P (get_or xs p d)
-each_at P [] p d all lt = absurd (omega (arith, lt))
-each_at P (x ∷ xs) zero d all lt = all.0
-each_at P (x ∷ xs) (suc p) d all lt = each_at P xs p d all.1 (omega (arith, lt))
 
 module _ {F S : Type 0} {gs : _} {g : buffer.Ghosts (PageBlob S gs)} {gives : F → Setting} {takes : WriteFactory → Setting} {told : Type 0} {run : Run F (PageBlob S gs)} {o : OpenedList} {d : Disk} (e : Drained g gives takes told run o d) (t : told)
     (j : Lists F (PageBlob S gs)) (back : GaveBack run j) where

@@ -13,10 +13,8 @@ use Rattle.section_manager.specs.Sections.{Sections, section_key, key_of, IsHeld
 use Rattle.section_manager.specs.Setting.{Setting}
 use Rattle.section_manager.specs.unsealed.Buffer.{count_of, is_unsettled}
 use Rattle.section_manager.proofs.sections.KeyLemmas.{key_injective}
-use Rattle.section_manager.proofs.WalkLemmas.{none_or_value}
 use Rattle.segments.specs.FixedLists.{Lists, IsJournal, IsProven}
 use Rattle.segments.specs.FixedLists as fixed
-use Rattle.segments.proofs.FixedKept.{last_place}
 use Rattle.meta_store.specs.declared.error.Side.{Side}
 use Rattle.meta_store.specs.declared.error.Side.TheVariants.{Left, Right}
 use Rattle.meta_store.specs.Blobs.{blob_of}
@@ -36,10 +34,12 @@ use Rattle.paired.specs.Records.{records}
 use Rattle.paired.proofs.GlobLemmas.{same_bytes}
 use Rattle.paired.proofs.pair.Sections.{glob_kept}
 use Rattle.paired.proofs.pair.Stays.{journal_stays}
-use Rattle.paired.proofs.RecordLemmas.{length-records, records-take, item_ends}
+use Rattle.paired.proofs.RecordLemmas.{length-records, records-take}
 use Rattle.paired.proofs.reconcile.Resting.{Resting, MarksRest, known_of, index_number, values_number, index_key, values_key, none_stored}
 use Rattle.paired.proofs.Ends.{Ends, Between, RecordsCut, ValuesCut, ValuesRemoved, none_of_not, not_of_none}
 use Rattle.paired.proofs.reconcile.Phases.{bare_of, index_cut_only, values_cut_only, values_still}
+use Rattle.blob_device.proofs.general.Numbers.{item_ends, last_place}
+use Rattle.blob_device.proofs.general.Options.{none_or_value}
 
 module _ {F S : Type 0} {gs : _} {g : buffer.Ghosts (PageBlob S gs)} {gives : F → Setting} {takes : WriteFactory → Setting} {told : Type 0} {Rel : Relation} {l : Layout} {i0 : Sections F (PageBlob S gs)} {m0 : Sections WriteFactory WriteBlob} {u : Store Key8 ℕ} {ends : ℕ → Option ℕ} {given : ℕ → List (List ℕ)} {j0 : Lists F (PageBlob S gs)} {o : OpenedList}
     (a : Timeline) (e : Ends g gives takes told Rel l i0 m0 u ends given j0 o (disk a)) where

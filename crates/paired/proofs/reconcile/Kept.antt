@@ -15,7 +15,6 @@ use Rattle.section_manager.specs.Fronts.{IsFront}
 use Rattle.section_manager.specs.Sections.{Sections, section_key, key_of, IsHeld}
 use Rattle.section_manager.specs.Setting.{Setting}
 use Rattle.section_manager.proofs.buffers.UnsealedCalls.{front_itself, front_taken}
-use Rattle.section_manager.proofs.WalkLemmas.{none_or_value}
 use Rattle.segments.specs.FixedLists.{Lists}
 use Rattle.segments.specs.FixedLists as fixed
 use Rattle.segments.specs.FixedReplay.{kept_of}
@@ -33,11 +32,13 @@ use Rattle.paired.proofs.GlobLemmas.{section_counted}
 use Rattle.paired.proofs.KeptLemmas.{EndsBy, follow_ends, sound_parts, sound_settled, settled_bytes, entry_same}
 use Rattle.paired.proofs.opening.Ends.{follow_first, follow_last_end, front_is_sound, marked_is, marked_or_zero}
 use Rattle.paired.proofs.pair.Synced.{end_within}
-use Rattle.paired.proofs.RecordLemmas.{all_with, all_by, map-same}
+use Rattle.paired.proofs.RecordLemmas.{map-same}
 use Rattle.paired.proofs.reconcile.Resting.{value_idle, none_of}
 use Rattle.paired.proofs.reconcile.Start.{Drained, GaveBack, end_of as ending_of, given_all, given_to, given_whole, over_stored, over_sound, kept_given, kept_stored}
 use Rattle.paired.proofs.Ends.{none_of_not, not_of_none}
 use Rattle.paired.proofs.reconcile.Pair.{Reconciled, Notes, pair_with}
+use Rattle.blob_device.proofs.general.Lists.{all_by, all_with}
+use Rattle.blob_device.proofs.general.Options.{none_or_value}
 
 -- ---- places
 module _ (place : List ℕ → ℕ × ℕ) where

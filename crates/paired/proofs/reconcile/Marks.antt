@@ -15,7 +15,6 @@ use Rattle.section_manager.specs.declared.buffer.SectionBuffer as buffer
 use Rattle.section_manager.specs.declared.unsealed.WriteFactory.{WriteFactory}
 use Rattle.section_manager.specs.Sections.{Sections, section_key, IsHeld}
 use Rattle.section_manager.specs.Setting.{Setting}
-use Rattle.section_manager.proofs.WalkLemmas.{none_or_value}
 use Rattle.segments.specs.FixedLists.{Lists}
 use Rattle.segments.specs.FixedLists as fixed
 use Rattle.meta_store.specs.Blobs.{blob_of}
@@ -32,13 +31,14 @@ use Rattle.paired.specs.Records.{records, is_sound, front, entry_of}
 use Rattle.paired.specs.Replaying.{Run, marker, records_given, is_sound_over}
 use Rattle.paired.proofs.opening.Ends.{front_sound, marked_is, marked_or_zero}
 use Rattle.paired.proofs.opening.Phases.{copy_or_not, IsPhase, IsBack, not_index, not_values, markers_phase}
-use Rattle.paired.proofs.RecordLemmas.{all_by}
 use Rattle.paired.proofs.reconcile.Resting.{known_of, stored_at, values_at, rests_no_chance}
 use Rattle.paired.proofs.reconcile.Start.{Drained, GaveBack}
 use Rattle.paired.proofs.reconcile.Phases.{index_left, values_left, markers_one}
 use Rattle.paired.proofs.reconcile.Left.{IsDirty, Stage}
 use Rattle.paired.proofs.reconcile.Pair.{Reconciled, Notes, pair_with, all_synced, length_given, moves}
 use Rattle.paired.proofs.reconcile.Kept.{none_given, none_in_place, in_place_from, sound_longer, sound_values, sound_pair}
+use Rattle.blob_device.proofs.general.Lists.{all_by}
+use Rattle.blob_device.proofs.general.Options.{none_or_value}
 
 module _ {F S : Type 0} {gs : _} {g : buffer.Ghosts (PageBlob S gs)} {gives : F → Setting} {takes : WriteFactory → Setting} {told : Type 0} {run : Run F (PageBlob S gs)} {o : OpenedList} (a : Timeline) (e : Drained g gives takes told run o (disk a)) (t : told)
     (j0 : Lists F (PageBlob S gs)) (back : GaveBack run j0) (j : Lists F (PageBlob S gs)) (n : Sections WriteFactory WriteBlob) (o3 : OpenedList) (f : Timeline) (did : Reconciled g gives takes told run (disk a) j n o3 (disk f))

@@ -14,7 +14,7 @@ use Rattle.section_manager.specs.declared.unsealed.WriteFactory.{WriteFactory}
 use Rattle.section_manager.specs.SealedLaws.{counted as index_counted}
 use Rattle.section_manager.specs.Sections.{Sections, section_key, key_of, IsHeld, SameBounds, SamePlace}
 use Rattle.section_manager.specs.Setting.{Setting}
-use Rattle.section_manager.proofs.WalkLemmas.{none_or_value, same_bounds}
+use Rattle.section_manager.proofs.WalkLemmas.{same_bounds}
 use Rattle.segments.specs.FixedLists.{Lists}
 use Rattle.segments.specs.FixedLists as fixed
 use Rattle.meta_store.specs.Calls.{IsOpened}
@@ -32,6 +32,7 @@ use Rattle.paired.proofs.reconcile.Start.{Drained, GaveBack, opening, walk_unfai
 use Rattle.paired.proofs.Ends.{RecordsCut, ValuesCut, ValuesRemoved, not_of_none}
 use Rattle.paired.proofs.reconcile.Stages.{Joint}
 use Rattle.paired.proofs.reconcile.Joints.{cut_bounds, cut_opened, cut_values_same, trim_opened, removed_opened, removed_held}
+use Rattle.blob_device.proofs.general.Options.{none_or_value}
 
 no_length : (size : ℕ) → 1 ≤ size → 0 / size ≡ 0
 no_length size pos = omega (arith, div_below 0 size 1 (omega (arith, pos)) (omega (arith, pos)))

@@ -23,7 +23,6 @@ use Rattle.section_manager.specs.Setting.{Setting}
 use Rattle.section_manager.specs.unsealed.Buffer.{count_of, is_unsettled}
 use Rattle.section_manager.specs.unsealed.Laws.{rested, found_again}
 use Rattle.section_manager.proofs.buffers.NothingSealed.{nothing_sealed}
-use Rattle.section_manager.proofs.WalkLemmas.{value_of, none_or_value, some_same}
 use Rattle.segments.specs.FixedLists.{Lists, IsJournal, IsProven}
 use Rattle.segments.specs.FixedLists as fixed
 use Rattle.segments.proofs.FixedWriteLemmas.{ArePages}
@@ -47,6 +46,7 @@ use Rattle.paired.proofs.KeptLemmas.{sound_parts}
 use Rattle.paired.proofs.opening.Laws.{left_as_read}
 use Rattle.paired.proofs.pair.Facts.{not_there}
 use Rattle.paired.proofs.RecordLemmas.{length-records}
+use Rattle.blob_device.proofs.general.Options.{none_or_value, some_same, value_of}
 
 -- ---- blobs
 pub at_rest_settled : (b : Blob) → IsAtRest b → IsSettled b

@@ -10,7 +10,6 @@ use Rattle.section_manager.specs.declared.unsealed.WriteFactory.{WriteFactory}
 use Rattle.section_manager.specs.Sections.{Sections, IsHeld, IsKeyOf}
 use Rattle.section_manager.specs.Setting.{Setting}
 use Rattle.section_manager.proofs.sections.KeyLemmas.{key_injective}
-use Rattle.section_manager.proofs.WalkLemmas.{none_or_value}
 use Rattle.segments.specs.FixedLists.{Lists}
 use Rattle.segments.specs.FixedLists as fixed
 use Rattle.meta_store.proofs.Uses.{IsReadable}
@@ -29,6 +28,7 @@ use Rattle.paired.proofs.Ends.{Between, none_of_not, not_of_none, not_longer, lo
 use Rattle.paired.proofs.opening.Ends.{same_order}
 use Rattle.paired.proofs.Steps.{step_wider}
 use Rattle.paired.proofs.reconcile.Left.{HeldValues, Kind, IsDirty, Stage}
+use Rattle.blob_device.proofs.general.Options.{none_or_value}
 
 -- Between two stages: all has settled, the same sections are held, and the journal has the records that were given.
 abbrev pub Joint : {F S : Type 0} {gs : _} → buffer.Ghosts (PageBlob S gs) → (F → Setting) → (WriteFactory → Setting) → Type 0 → Run F (PageBlob S gs) → Disk → Lists F (PageBlob S gs) → Sections WriteFactory WriteBlob → OpenedList → Disk → Type 0

@@ -10,7 +10,6 @@ use Rattle.section_manager.specs.declared.buffer.SectionBuffer as buffer
 use Rattle.section_manager.specs.declared.unsealed.WriteFactory.{WriteFactory}
 use Rattle.section_manager.specs.Sections.{Sections, section_key, key_of, IsOver}
 use Rattle.section_manager.specs.Setting.{Setting}
-use Rattle.section_manager.proofs.WalkLemmas.{none_or_value}
 use Rattle.segments.specs.FixedLists.{Lists, IsJournal, IsProven, OwesHeld, OwesSettled, AreSealed, UnopenedLater}
 use Rattle.segments.specs.FixedLists as fixed
 use Rattle.segments.specs.FixedReplay.{HasWalk, WalksOver, IsDrained, IsLeft, kept_of, kept_bytes}
@@ -26,6 +25,7 @@ use Rattle.paired.proofs.Ends.{Ends}
 use Rattle.paired.proofs.opening.Ends.{IsGoodAt, same_order, front_stops, front_all, front_cut}
 use Rattle.paired.proofs.pair.Synced.{Here}
 use Rattle.paired.proofs.reconcile.Resting.{Resting, stored_at, values_at, index_settles}
+use Rattle.blob_device.proofs.general.Options.{none_or_value}
 
 -- ---- the replay at its end, and the journal that it gives back
 pub record Drained {F S : Type 0} {gs : _} (g : buffer.Ghosts (PageBlob S gs)) (gives : F → Setting) (takes : WriteFactory → Setting) (told : Type 0) (run : Run F (PageBlob S gs)) (o : OpenedList) (d : Disk) : Type 0 where

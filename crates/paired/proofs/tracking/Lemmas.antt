@@ -35,6 +35,7 @@ use Rattle.meta_store.specs.Store.{MayBeSynced, Seen, Stands, Store, staging, sy
 use Rattle.meta_store.proofs.Inserting.{retained_fewer}
 use Rattle.paired.specs.Kept.{MarkerMap, IsMarked, marker_of}
 use Rattle.paired.specs.Tracked.{Tracked, synced_of, Trails, IsFrom}
+use Rattle.blob_device.proofs.general.Lists.{contains_or_not}
 
 -- ---- keys
 -- the order of the keys
@@ -141,12 +142,6 @@ decides active s = (
   (λ has. list_any_at (λ y. y == s) active has.0 s has.1 (eq-eqb _ s has.2)),
 )
 
-pub active_or : (active : List ℕ) (s : ℕ) → Contains active s ⊎ (Contains active s → ⊥)
-active_or active s = ⊎_elim
-    (λ yes. inl ((decides active s).0 yes))
-    (λ no. inr (λ has. cc (no, (decides active s).1 has)))
-    (cases_Bool (list_any (λ y. y == s) active))
-
 module _ (active : List ℕ) (es fs : List (ℕ × ℕ)) (is : fs ≡ filter (λ e. list_any (λ y. y == e.0) active) es) (s : ℕ) where
   -- an active section stays
   pub stays : Contains active s → lookup (is_at (nat_cmp s)) fs ≡ lookup (is_at (nat_cmp s)) es
@@ -201,7 +196,7 @@ staging_goes_on active all rest k v before mid now was here others marks kept sa
   still = λ none. ⊎_elim
       (λ has. kept has ∙ was.still none)
       (λ no. absurd (cc (none k no, was.found.0)))
-      (active_or active k);
+      (contains_or_not active k);
   same = same ∙ ap (λ (m : Store Key8 ℕ). record m { entries = now.entries; staged = now.staged }) was.same;
   found = was.found.1;
 }
@@ -246,13 +241,13 @@ module _ (active : List ℕ) (old new : Tracked)
   staged_trails trails s n is = ⊎_elim
       (λ has. λ same. trails s n (sym (stay s has) ∙ is) (same ∙ kept s has))
       (λ no. absurd (cc (gone s no, is)))
-      (active_or active s)
+      (contains_or_not active s)
 
   pub staged_synced : (s : ℕ) → synced_of new s ≡ synced_of old s
   staged_synced s = ⊎_elim
       (λ has. ap (λ (o : Option ℕ). unwrap_or o (marker_of new.store.entries s)) (stay s has) ∙ ap (unwrap_or (old.trailing s)) (kept s has))
       (λ no. ap (λ (o : Option ℕ). unwrap_or o (marker_of new.store.entries s)) (gone s no) ∙ moved s no)
-      (active_or active s)
+      (contains_or_not active s)
 
 -- ---- what is left at or above a bound
 kept_or_not : (test : Key8 → Bool) (b : Bool) (e : Key8 × ℕ) (rest : MarkerMap) → lookup test (cond b (e ∷ rest) rest) ≡ cond b (cond (test e.0) (Some e.1) (lookup test rest)) (lookup test rest)

@@ -4,7 +4,6 @@ use Rattle.std.specs.Result.{IsErrOf, MatchResult}
 use Rattle.blob_device.specs.Timeline.{disk}
 use Rattle.blob_device.specs.declared.device.Device as device
 use Rattle.blob_device.specs.declared.runtime.RError.TheVariants as runtime
-use Rattle.blob_device.proofs.Results.{err_with}
 use Rattle.meta_store.specs.declared.error.Error.{Error}
 use Rattle.meta_store.specs.declared.error.Error.TheVariants.{Runtime, Corruption, Full, Mem}
 use Rattle.meta_store.specs.declared.error.Side.{Side}
@@ -13,6 +12,7 @@ use Rattle.meta_store.specs.Calls.{GaveUp, IsFailure}
 use Rattle.meta_store.specs.Format.{Format}
 use Rattle.meta_store.specs.Opening.{IsOpeningCause, NotOpened, PairOn}
 use Rattle.paired.proofs.opening.StartCauses.{match_err}
+use Rattle.blob_device.proofs.general.Results.{err_with}
 
 pub gave_up : {T : Type 0} (r : Result T Error) (e : Error) (before now : ℕ) → r ≡ Err e → IsFailure before now e → GaveUp r before now
 gave_up {T = T} r e before now is (inl short) = let f : Error → Result T Error = λ y. Err y in inl (is ∙ ap f short)

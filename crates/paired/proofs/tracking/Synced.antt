@@ -3,13 +3,13 @@ use Rattle.std.proofs.Common.{◌≡◌, ◌⊎◌, inl, inr, ◌+◌, ◌≤◌
 use Rattle.std.specs.Result.{IsErrOf}
 use Rattle.blob_device.specs.declared.device.Device as device
 use Rattle.blob_device.specs.declared.runtime.RError.TheVariants as runtime
-use Rattle.blob_device.proofs.Results.{err_with}
 use Rattle.meta_store.specs.declared.error.Error.{Error}
 use Rattle.meta_store.specs.declared.error.Error.TheVariants.{Runtime, Corruption, Full, Mem}
 use Rattle.meta_store.specs.Calls.{GaveUp}
 use Rattle.meta_store.specs.Format.{Format}
 use Rattle.meta_store.specs.Store.{Seen}
 use Rattle.meta_store.specs.Syncs.{IsSyncCause, NotSynced, Synced}
+use Rattle.blob_device.proofs.general.Results.{err_with}
 
 module _ {K V C D : Type 0} (dev : device.Ghosts D) (f : C → Format K V) (m : Seen K V C) (old new : D) {T : Type 0} where
   -- a sync that went well had a next version, where it needed one

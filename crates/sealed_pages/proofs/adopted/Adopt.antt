@@ -8,8 +8,8 @@ use Rattle.sealed_pages.specs.Flushing.{Data, Covers}
 use Rattle.sealed_pages.specs.SealedPrefix.{pages_in, sealed_from, sealed_prefix, place, data_from}
 use Rattle.sealed_pages.specs.Slots.{slot_length, page_length, best_slot}
 use Rattle.sealed_pages.specs.View.{View, page_at}
-use Rattle.sealed_pages.proofs.slots.SlotLemmas.{times_next, times_more}
 use Rattle.sealed_pages.proofs.slots.SealedBytes.{rest_is, length-step, page_length-le}
+use Rattle.blob_device.proofs.general.Numbers.{times_more, times_next}
 
 module _ (seal : List ℕ → ℕ) (P : ℕ) where
   -- each page below the end of what is sealed is covered that far

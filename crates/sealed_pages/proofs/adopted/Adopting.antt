@@ -7,11 +7,12 @@ use Rattle.sealed_pages.specs.Buffer.{pages_of, Adopted, State}
 use Rattle.sealed_pages.specs.Flushing.{next_slot, Covers, Stands, Ready, Kept, IsClean}
 use Rattle.sealed_pages.specs.Slots.{slot_length}
 use Rattle.sealed_pages.specs.View.{page_at}
-use Rattle.sealed_pages.proofs.slots.SlotLemmas.{times_more, times_next, page_next}
+use Rattle.sealed_pages.proofs.slots.SlotLemmas.{page_next}
 use Rattle.sealed_pages.proofs.slots.Steps.{below_sound}
 use Rattle.sealed_pages.proofs.slots.SlotSteps.{settled_stands}
 use Rattle.sealed_pages.proofs.HadLemmas.{had_rest}
 use Rattle.sealed_pages.proofs.slots.PageCalls.{other_slot}
+use Rattle.blob_device.proofs.general.Numbers.{times_more, times_next}
 
 -- the page in which the flushed bytes end
 pub end_page : (P first from : ℕ) → from < P → (k : ℕ) → k * P < first * P + from → first * P + from < k * P + P → (k ≡ first) × (0 < from)

@@ -5,9 +5,8 @@ use Rattle.blob_device.specs.declared.error.DevError.{DevError}
 use Rattle.blob_device.specs.Change.{Write, Resize, Settle, during, done, FailedTo, written, resized}
 use Rattle.blob_device.specs.Disk.{Key, Blob, Outside}
 use Rattle.blob_device.specs.Timeline.{Timeline, disk, Passes, Always, OnlyAt}
-use Rattle.blob_device.proofs.Bytes.{length-written, length-resized, outside_push}
+use Rattle.blob_device.proofs.Bytes.{outside_push}
 use Rattle.blob_device.proofs.Moments.{always_now, only_start}
-use Rattle.blob_device.proofs.Places.{resized_below}
 use Rattle.sealed_pages.specs.Buffer.{pages_of}
 use Rattle.sealed_pages.specs.Cutting.{IsAtRest}
 use Rattle.sealed_pages.specs.Flushing.{no_slot}
@@ -21,6 +20,8 @@ use Rattle.sealed_pages.proofs.slots.PageCalls.{only_then, only_weaker}
 use Rattle.sealed_pages.proofs.slots.SlotLemmas.{page_next}
 use Rattle.sealed_pages.proofs.slots.SlotSteps.{slot_is}
 use Rattle.sealed_pages.proofs.slots.Steps.{slot_high}
+use Rattle.blob_device.specs.Lengths.{length-resized, length-written}
+use Rattle.blob_device.specs.Places.{resized_below}
 
 -- nothing settles
 pub settles_start : (key : Key) (t : Timeline) → SettlesNothing key t t

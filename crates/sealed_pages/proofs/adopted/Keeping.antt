@@ -6,14 +6,12 @@ use Rattle.blob_device.specs.Disk.{Key, Blob}
 use Rattle.blob_device.specs.Change.{Change, Write, Resize, Settle, written, resized}
 use Rattle.blob_device.specs.Timeline.{Timeline, disk, Passes}
 use Rattle.blob_device.proofs.Moments.{ok_blob, only_start}
-use Rattle.blob_device.proofs.Bytes.{length-written, length-resized}
 use Rattle.sealed_pages.specs.ChanceSeal.{Leaves, Sealing}
 use Rattle.sealed_pages.specs.Flushing.{next_slot, no_slot, Data, Sound, Covers, Held, Stands, Ready, KeptContent, Kept, IsClean}
 use Rattle.sealed_pages.specs.Slots.{named_length, slot_length}
 use Rattle.sealed_pages.specs.View.{view, page_at, slot_at}
 use Rattle.blob_device.specs.Guards.{Avoids, Makes}
-use Rattle.blob_device.proofs.Places.{resized_below}
-use Rattle.sealed_pages.proofs.slots.SlotLemmas.{times_more, page_apart, slot_length-le, slot_stands, slot_same, page_next, zero_named}
+use Rattle.sealed_pages.proofs.slots.SlotLemmas.{page_apart, slot_length-le, slot_stands, slot_same, page_next, zero_named}
 use Rattle.sealed_pages.proofs.slots.Steps.{slot_high, below_sound, named_same}
 use Rattle.sealed_pages.proofs.slots.SlotSteps.{slot_is, settled_stands, slot_data_kept, slot_kept, held_slot}
 use Rattle.sealed_pages.proofs.adopted.Repairing.{cleared_below, behind_below, repaired_quiet}
@@ -21,6 +19,9 @@ use Rattle.blob_device.proofs.GuardsLemmas.{sealed_after, sealed_start, sealed_o
 use Rattle.sealed_pages.proofs.HadLemmas.{had_settled}
 use Rattle.sealed_pages.proofs.slots.PageCalls.{only_weaker}
 use Rattle.sealed_pages.proofs.slots.SealedBytes.{stands_leaves}
+use Rattle.blob_device.specs.Lengths.{length-resized, length-written}
+use Rattle.blob_device.specs.Places.{resized_below}
+use Rattle.blob_device.proofs.general.Numbers.{times_more}
 
 module _ (seal : List ℕ → ℕ) (P : ℕ) (bytes : List ℕ) (F : ℕ) (σ : ℕ → Bool) where
   kept_sound : (c : List ℕ) → KeptContent seal P bytes F σ c → Sound seal P bytes c

@@ -4,16 +4,17 @@ use Rattle.std.proofs.lemmas.Bool.{cases_lt, cases_eq}
 use Rattle.std.proofs.lemmas.Bool.Decides.{eqb_tells}
 use Rattle.std.proofs.lemmas.List.{get_or_past}
 use Rattle.blob_device.specs.Change.{written, resized}
-use Rattle.blob_device.proofs.Bytes.{length-resized, length-written}
 use Rattle.sealed_pages.specs.Flushing.{no_slot, Quiet, Below}
 use Rattle.sealed_pages.specs.SealedPrefix.{pages_in, size_below, adopted_size}
 use Rattle.sealed_pages.specs.Slots.{named_length, slot_length, page_length}
 use Rattle.sealed_pages.specs.View.{view, page_at, slot_at}
-use Rattle.blob_device.proofs.Places.{resized_below}
-use Rattle.sealed_pages.proofs.slots.SlotLemmas.{times_more, page_apart, slot_named, slot_at_most, slot_stands, slot_same, zero_named, page_next}
+use Rattle.sealed_pages.proofs.slots.SlotLemmas.{page_apart, slot_named, slot_at_most, slot_stands, slot_same, zero_named, page_next}
 use Rattle.sealed_pages.proofs.slots.SealedBytes.{page_length-le, page_length-slot, slot_inside}
 use Rattle.sealed_pages.proofs.slots.Steps.{slot_low, slot_high}
 use Rattle.sealed_pages.proofs.slots.SlotSteps.{same_or_apart, slot_is, slot_kept}
+use Rattle.blob_device.specs.Lengths.{length-resized, length-written}
+use Rattle.blob_device.specs.Places.{resized_below}
+use Rattle.blob_device.proofs.general.Numbers.{times_more}
 
 module _ (seal : List ℕ → ℕ) (P : ℕ) where
   -- the size at which a blob is adopted: no slot covers more

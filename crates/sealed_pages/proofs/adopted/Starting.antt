@@ -13,13 +13,14 @@ use Rattle.sealed_pages.specs.Starts.{Starts, StartsOver}
 use Rattle.sealed_pages.specs.View.{view, page_at, slot_at}
 use Rattle.sealed_pages.specs.declared.reading.LastPage.{LastPage}
 use Rattle.sealed_pages.proofs.adopted.Repairing.{adopted_below, page_order}
-use Rattle.sealed_pages.proofs.slots.SlotLemmas.{times_next, times_more, slot_length-le}
+use Rattle.sealed_pages.proofs.slots.SlotLemmas.{slot_length-le}
 use Rattle.std.proofs.lemmas.List.{get_or_append_left, get_or-append_right, get_or-take}
 use Rattle.sealed_pages.proofs.adopted.Adopt.{own_data, length-data_from, best_covers}
 use Rattle.sealed_pages.proofs.adopted.Adopting.{pages_none, pages_some, pages_reach}
 use Rattle.sealed_pages.proofs.memory.Holding.{extent_more}
 use Rattle.std.proofs.Math.Nat.{div-lt_iff_lt-mul}
 use Rattle.sealed_pages.proofs.looking.Looking.{page_length_is, blank_named, page_zero, page_reaches, part_view}
+use Rattle.blob_device.proofs.general.Numbers.{times_more, times_next}
 
 module _ (seal : List ℕ → ℕ) (P : ℕ) (c : List ℕ) (page a b : ℕ) (first : a ≡ slot_length seal P c page false) (second : b ≡ slot_length seal P c page true) (some : 1 ≤ page_length seal P c page) where
   length_is : page_length seal P c page ≡ max a b

@@ -3,8 +3,6 @@ use Rattle.std.proofs.Common.{◌≡◌, ◌≢◌, ◌⊎◌, inl, inr, ℕ, ze
 use Rattle.std.proofs.lemmas.Bool.{cases_lt, cases_eq, cases_order, eq-eqb, ne_eqb}
 use Rattle.std.proofs.lemmas.List.{get_or-take, get_or-drop, get_or_past, ext_get_or}
 use Rattle.blob_device.specs.Change.{written, resized}
-use Rattle.blob_device.proofs.Bytes.{length-written, length-resized}
-use Rattle.blob_device.proofs.Places.{resized_below}
 use Rattle.sealed_pages.specs.Flushing.{with_slot, no_slot, Quiet, Covers, Below}
 use Rattle.sealed_pages.specs.SealedPrefix.{sealed_prefix}
 use Rattle.sealed_pages.specs.Slots.{named_length, slot_length, page_length, best_slot, slot_bytes}
@@ -14,10 +12,13 @@ use Rattle.sealed_pages.proofs.looking.Looking.{slot_short}
 use Rattle.sealed_pages.proofs.Reaching.{prefix_sound, prefix_is}
 use Rattle.sealed_pages.proofs.adopted.Repairing.{page_order}
 use Rattle.sealed_pages.proofs.slots.SealedBytes.{SoundTo}
-use Rattle.sealed_pages.proofs.slots.SlotLemmas.{times_more, page_apart, page_next, slot_length-le, slot_stands, slot_room, slot_named, slot_at_most, slot_same, zero_named}
+use Rattle.sealed_pages.proofs.slots.SlotLemmas.{page_apart, page_next, slot_length-le, slot_stands, slot_room, slot_named, slot_at_most, slot_same, zero_named}
 use Rattle.sealed_pages.proofs.slots.Steps.{slot_low, slot_high}
 use Rattle.sealed_pages.specs.SlotNames.{is_b}
 use Rattle.sealed_pages.proofs.slots.SlotSteps.{length-slot_bytes, slot_matches, slot_same_data, slot_is, slot_kept, same_or_apart}
+use Rattle.blob_device.specs.Lengths.{length-resized, length-written}
+use Rattle.blob_device.specs.Places.{resized_below}
+use Rattle.blob_device.proofs.general.Numbers.{times_more}
 
 pub resized_take : (c : List ℕ) (n : ℕ) → n ≤ length c → resized c n ≡ take n c
 resized_take c n le = ext_get_or 0 (resized c n) (take n c) (omega (arith, length-resized c n, length-take n c, le))

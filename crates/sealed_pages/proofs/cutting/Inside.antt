@@ -18,10 +18,10 @@ use Rattle.sealed_pages.specs.View.{page_at, slot_at}
 use Rattle.sealed_pages.proofs.EntryLemmas.{no_reads_then}
 use Rattle.sealed_pages.proofs.Fronts.{front_page, front_then}
 use Rattle.sealed_pages.proofs.slots.PageCalls.{alone_then}
-use Rattle.sealed_pages.proofs.slots.SlotLemmas.{times_next}
 use Rattle.sealed_pages.proofs.cutting.Truncating.{rose_since}
 use Rattle.sealed_pages.proofs.cutting.Calls.{sealing_less}
 use Rattle.sealed_pages.proofs.cutting.Steps.{settled_rest, last1, own1, covered1, page_is1, prefix1, inside1, last2, own2, prefix2, inside2, later_any, both_any}
+use Rattle.blob_device.proofs.general.Numbers.{times_next}
 
 -- what is promised of a slot, by another name
 pub slot_as : {D : Type 0} {dev : device.Ghosts D} {seal : List ℕ → ℕ} {P : ℕ} {blob : Key} {old new : D} {page : ℕ} {bytes : List ℕ} {a b : Bool} {r : Result ℕ DevError} → a ≡ b → AddsSlot dev seal P blob old new page bytes a r → AddsSlot dev seal P blob old new page bytes b r

@@ -5,7 +5,6 @@ use Rattle.std.proofs.lemmas.Bool.{cases_lt, cases_order}
 use Rattle.std.proofs.lemmas.List.{get_or_append_left, get_or-take, get_or-drop}
 use Rattle.std.proofs.lemmas.Nat.{from_be_bytes-to_be_bytes_2}
 use Rattle.blob_device.specs.Change.{written, resized}
-use Rattle.blob_device.proofs.Bytes.{length-written, length-resized}
 use Rattle.sealed_pages.specs.Cutting.{page_cut}
 use Rattle.sealed_pages.specs.Flushing.{no_slot}
 use Rattle.sealed_pages.specs.SealedPrefix.{pages_in, adopted_size}
@@ -18,9 +17,11 @@ use Rattle.sealed_pages.proofs.looking.Looking.{page_length_is}
 use Rattle.sealed_pages.proofs.Reaching.{size_at_most}
 use Rattle.sealed_pages.proofs.adopted.Repairing.{page_order}
 use Rattle.sealed_pages.proofs.slots.SealedBytes.{page_length-le}
-use Rattle.sealed_pages.proofs.slots.SlotLemmas.{times_more, page_next, slot_at_most, slot_stands}
+use Rattle.sealed_pages.proofs.slots.SlotLemmas.{page_next, slot_at_most, slot_stands}
 use Rattle.sealed_pages.proofs.slots.SlotSteps.{bytes_at-list, length-two_bytes, length-slot_bytes, slot_is, slot_matches, slot_same_data, slot_same_slot}
 use Rattle.sealed_pages.proofs.slots.Steps.{slot_low, slot_high, named_same}
+use Rattle.blob_device.specs.Lengths.{length-resized, length-written}
+use Rattle.blob_device.proofs.general.Numbers.{times_more}
 
 module _ (seal : List ℕ → ℕ) (P : ℕ) where
   -- a page with a matching slot begins within the content

@@ -11,8 +11,9 @@ use Rattle.sealed_pages.specs.Slots.{slot_length, page_length, best_slot, slot_b
 use Rattle.sealed_pages.specs.View.{page_at, slot_at}
 use Rattle.sealed_pages.proofs.cutting.Calls.{sealing_less, sealing_whole, sealing_then}
 use Rattle.sealed_pages.proofs.cutting.Cuts.{cut_page, cut_best, cut_prefix, six_end, short_whole, short_length, short_prefix}
-use Rattle.sealed_pages.proofs.slots.SlotLemmas.{page_next, times_next}
+use Rattle.sealed_pages.proofs.slots.SlotLemmas.{page_next}
 use Rattle.sealed_pages.proofs.slots.SlotSteps.{length-slot_bytes}
+use Rattle.blob_device.proofs.general.Numbers.{times_next}
 
 pub not_not : (b : Bool) → not (not b) ≡ b
 not_not true = refl

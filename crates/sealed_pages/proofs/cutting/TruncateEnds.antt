@@ -7,7 +7,6 @@ use Rattle.blob_device.specs.Opened.{Opened, OpenedList, reads_of}
 use Rattle.blob_device.specs.Timeline.{Timeline, disk}
 use Rattle.blob_device.specs.declared.runtime.RError.{RError}
 use Rattle.blob_device.specs.declared.runtime.RError.TheVariants.{Fault, InvalidChecksum, Mem}
-use Rattle.blob_device.proofs.Results.{if_ok_with, on_ok_two, on_ok, on_err}
 use Rattle.sealed_pages.specs.Buffer.{Buffer, key_of, size_of, flushed_of, bytes_of, Holds, IsSealed, IsBacked, HasFlushed, has_leftover}
 use Rattle.sealed_pages.specs.Cached.{IsCachedOf, AreCachedOf}
 use Rattle.std.proofs.lemmas.List.Elements.{All-nil}
@@ -25,9 +24,10 @@ use Rattle.sealed_pages.proofs.Fronts.{front_look, front_then, front_now}
 use Rattle.sealed_pages.proofs.memory.Holding.{holds_data, holds_own, holds_bytes, bytes_length}
 use Rattle.sealed_pages.proofs.looking.Looking.{unchanged_now}
 use Rattle.sealed_pages.proofs.slots.PageCalls.{alone_then}
-use Rattle.sealed_pages.proofs.cutting.Truncating.{all_flushed, after_sync, page_stands, cut_place, map_ok, both_ok, data_taken, settles_of, leaves_of, prefix_covers, rose_since}
+use Rattle.sealed_pages.proofs.cutting.Truncating.{all_flushed, after_sync, page_stands, cut_place, data_taken, settles_of, leaves_of, prefix_covers, rose_since}
 use Rattle.sealed_pages.specs.SlotNames.{}
 use Rattle.sealed_pages.proofs.UnrecoveredLemmas.{prefix_short, keeps_sealing, keeps_now, keeps_then, prefix_stands, cut_keeps, cut_stays, front_covers}
+use Rattle.blob_device.proofs.general.Results.{both_ok, if_ok_with, map_ok, on_err, on_ok, on_ok_two}
 
 -- the bytes that a buffer means
 abbrev meant : Buffer → Timeline → List ℕ
@@ -373,8 +373,3 @@ module _ {T : Type 0} {see : T → Buffer} {seal : List ℕ → ℕ} {u w : Buff
 -- where nothing is cut
 pub no_recovery : (seal : List ℕ → ℕ) (u : Buffer) (len : ℕ) (b : Blob) → u.from < u.page_size → size_of u ≤ len → IsRecovery seal u len b → ⊥
 no_recovery seal u len b begun past recovery = omega (arith, prefix_short seal u b (omega (arith, begun)) recovery.0, recovery.1, past)
-
--- what holds of a value holds of it in other words
-pub ok_of : {T E : Type 0} {A B : T → Type 0} (r : Result T E) → IfOk r A → ((v : T) → A v → B v) → IfOk r B
-ok_of (Ok v) has f = f v has
-ok_of (Err e) has f = tt

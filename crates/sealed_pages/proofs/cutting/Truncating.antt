@@ -1,6 +1,6 @@
 -- A buffer that is cut: what it holds before and after.
 use Rattle.std.proofs.Common.{eqb, ◌≡◌, ◌≢◌, ◌⊎◌, inl, inr, ℕ, ◌+◌, ◌-◌, ◌*◌, ◌/◌, ◌%◌, ◌^◌, ◌<◌, ◌≤◌, ◌||◌, not, Bool, false, cond, List, [], length, get_or, take, drop, Result, Ok, Err, refl, sym, ◌∙◌, ap, subst, arith, length-take, IsErrAnd}
-use Rattle.std.proofs.lemmas.Bool.{cases_lt, cases_eq, eq-eqb, ne_eqb}
+use Rattle.std.proofs.lemmas.Bool.{cases_Bool, cases_eq, cases_lt, eq-eqb, ne_eqb}
 use Rattle.std.proofs.lemmas.List.{get_or-take, get_or-drop}
 use Rattle.blob_device.specs.Change.{written, resized}
 use Rattle.blob_device.specs.Disk.{Key, Blob, Disk, settled_at}
@@ -33,17 +33,18 @@ use Rattle.sealed_pages.proofs.HadLemmas.{had_rest}
 use Rattle.sealed_pages.proofs.slots.PageCalls.{alone_then}
 use Rattle.sealed_pages.proofs.adopted.Repairing.{page_order}
 use Rattle.sealed_pages.proofs.cutting.Steps.{other_not, last2, own2, prefix2, inside2}
-use Rattle.sealed_pages.proofs.memory.Holding.{holds_leaves, bool_or, bytes_is, data_less}
+use Rattle.sealed_pages.proofs.memory.Holding.{holds_leaves, bytes_is, data_less}
 use Rattle.sealed_pages.proofs.adopted.Keeping.{data_cut}
 use Rattle.sealed_pages.proofs.Reaching.{prefix_sound, prefix_is, size_at_most, adopted_size_is, rest_leaves}
 use Rattle.sealed_pages.proofs.slots.SealedBytes.{SoundTo, sound_to, page_length-le}
-use Rattle.sealed_pages.proofs.slots.SlotLemmas.{times_next, times_more, page_apart, slot_stands}
+use Rattle.sealed_pages.proofs.slots.SlotLemmas.{page_apart, slot_stands}
 use Rattle.sealed_pages.proofs.slots.SlotSteps.{length-slot_bytes, slot_data_kept, settled_stands}
 use Rattle.sealed_pages.proofs.slots.Steps.{quiet_below, below_sound, tidy_sound, slot_low}
+use Rattle.blob_device.proofs.general.Numbers.{times_more, times_next}
 
 -- once all is settled, the bytes are the sealed prefix of what has settled
 pub holds_rest : (seal : List ℕ → ℕ) (u : Buffer) (all : List ℕ) (b : Blob) → u.from < u.page_size → Holds seal u all b → u.settled ≡ size_of u → u.from ≡ length u.tip → IsAtRest b
-holds_rest seal u all b begun holds settled full = elim (bool_or (u.behind || u.torn)) [
+holds_rest seal u all b begun holds settled full = elim (cases_Bool (u.behind || u.torn)) [
   | inl left ↦ (holds.state.adopted left).0.is
   | inr clean ↦ (holds.state.ready clean).rest (omega (arith, settled, full))
 ]
@@ -52,7 +53,7 @@ pub holds_prefix : (seal : List ℕ → ℕ) (u : Buffer) (all : List ℕ) (b : 
 holds_prefix seal u all b begun holds full =
     let pos : 1 ≤ u.page_size = omega (arith, begun) in
     let far : flushed_of u ≡ length all = omega (arith, full, holds.size) in
-    elim (bool_or (u.behind || u.torn)) [
+    elim (cases_Bool (u.behind || u.torn)) [
       | inl left ↦ (let k = (holds.state.adopted left).0.content in let σ = (holds.state.adopted left).0.σ in
           prefix_is seal u.page_size all b.content σ pos (sound_to seal u.page_size all b.content (below_sound seal u.page_size all (flushed_of u) b.content k.fits k.below k.same))
           (subst (λ (n : ℕ). Covers seal u.page_size b.content n σ) far k.covers))
@@ -65,7 +66,7 @@ holds_prefix seal u all b begun holds full =
 pub holds_again : (seal : List ℕ → ℕ) (u : Buffer) (all : List ℕ) (b : Blob) → u.from < u.page_size → Holds seal u all b → adopted_size seal u.page_size b.content ≡ flushed_of u
 holds_again seal u all b begun holds =
     let pos : 1 ≤ u.page_size = omega (arith, begun) in
-    elim (bool_or (u.behind || u.torn)) [
+    elim (cases_Bool (u.behind || u.torn)) [
       | inl left ↦ (let k = (holds.state.adopted left).0.content in adopted_size_is seal u.page_size (flushed_of u) b.content (holds.state.adopted left).0.σ pos k.below k.covers)
       | inr clean ↦ (let f = (holds.state.ready clean).flushed in adopted_size_is seal u.page_size (flushed_of u) b.content (holds.state.ready clean).τ pos (quiet_below seal u.page_size (flushed_of u) b.content f.quiet) f.covers)
     ]
@@ -258,11 +259,6 @@ page_stands seal P c j lt = elim (cases_lt (length c) (page_at P j)) [
 pub cut_place : (P len : ℕ) → len / P * P + len % P ≡ len
 cut_place P len = omega (arith, mod-eq-sub-div-mul len P, div-mul-le_self len P)
 
--- what holds of an answer
-pub map_ok : {T E : Type 0} (r : Result T E) (A B : T → Type 0) → ((v : T) → A v → B v) → IfOk r A → IfOk r B
-map_ok (Ok v) A B f has = f v has
-map_ok (Err e) A B f has = has
-
 -- what a call that failed says of its value
 pub no_value : {T E : Type 0} (P : T → Type 0) (r : Result T E) → IsErr r → IfOk r P
 no_value P (Ok v) is = absurd (cc is)
@@ -274,10 +270,6 @@ pub raised_cause : {T : Type 0} (r : Result T RError) (e : DevError) (n m : ℕ)
 raised_cause (Ok v) e n m is rose = tt
 raised_cause (Err x) device.Fault n m is rose = inr (ap Err is, rose refl)
 raised_cause (Err x) device.Mem n m is rose = inl (ap Err is)
-
-pub both_ok : {T E : Type 0} (r : Result T E) (A B : T → Type 0) → IfOk r A → IfOk r B → IfOk r (λ v. A v × B v)
-both_ok (Ok v) A B a b = (a, b)
-both_ok (Err e) A B a b = a
 
 pub page_named : {T : Type 0} (r : Result T RError) (p q : ℕ) (A B : Type 0) → ((r ≡ Err Mem) → A) → ((r ≡ Err Fault) → B → A) → OnErr r ((r ≡ Err (InvalidChecksum q)) ⊎ ((r ≡ Err Mem) ⊎ ((r ≡ Err Fault) × B))) → r ≡ Err (InvalidChecksum p) → p ≡ q
 page_named (Ok v) p q A B mem fault cause is = absurd (cc is)

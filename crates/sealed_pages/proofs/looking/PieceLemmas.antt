@@ -2,7 +2,6 @@
 use Rattle.std.proofs.Common.{◌≡◌, ◌⊎◌, inl, inr, ◌%◌, ℕ, zero, suc, ◌+◌, ◌-◌, ◌*◌, ◌/◌, ◌^◌, ◌<◌, ◌≤◌, min, List, length, take, drop, refl, sym, ◌∙◌, ap, arith, length-drop}
 use Rattle.std.proofs.Math.Nat.{mul-le-mul_right, div-mul-le_self, lt-div-mul-add}
 use Rattle.std.proofs.lemmas.Grind.{div_ceil_times}
-use Rattle.sealed_pages.proofs.memory.Holding.{times_sum}
 use Rattle.sealed_pages.proofs.slots.SealedBytes.{page_length-le}
 use Rattle.sealed_pages.specs.Proven.{prefix_upto, proven_prefix}
 use Rattle.sealed_pages.specs.Reads.{pages_for}
@@ -17,7 +16,7 @@ use Rattle.sealed_pages.specs.View.{page_at}
 use Rattle.sealed_pages.proofs.looking.Looking.{page_below, take_short}
 use Rattle.sealed_pages.proofs.looking.ReadLemmas.{index_twice, part_page, page_in}
 use Rattle.sealed_pages.proofs.slots.SealedBytes.{rest_is, length-step}
-use Rattle.sealed_pages.proofs.slots.SlotLemmas.{times_next}
+use Rattle.blob_device.proofs.general.Numbers.{times_next, times_sum}
 
 page_sum : (P q j : ℕ) → page_at P q + page_at P j ≡ page_at P (q + j)
 unfolding page_at

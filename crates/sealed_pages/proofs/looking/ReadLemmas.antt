@@ -21,7 +21,8 @@ use Rattle.sealed_pages.specs.View.{View, view, page_at}
 use Rattle.sealed_pages.proofs.adopted.Adopt.{length-data_from, get_or-data_from}
 use Rattle.sealed_pages.proofs.adopted.Repairing.{page_order}
 use Rattle.sealed_pages.proofs.looking.Looking.{page_length_is, part_slot}
-use Rattle.sealed_pages.proofs.slots.SlotLemmas.{page_next, times_next, times_more, slot_stands}
+use Rattle.sealed_pages.proofs.slots.SlotLemmas.{page_next, slot_stands}
+use Rattle.blob_device.proofs.general.Numbers.{times_more, times_next}
 
 -- a page by itself is covered as far as in the blob
 pub part_page : (seal : List ℕ → ℕ) (P : ℕ) (c : List ℕ) (k : ℕ) → page_at P k + (P + 12) < 2 ^ 64 → page_length seal P (page_of P c k) 0 ≡ page_length seal P c k

@@ -19,17 +19,16 @@ use Rattle.sealed_pages.specs.Slots.{page_length}
 use Rattle.sealed_pages.specs.View.{View, view}
 use Rattle.sealed_pages.proofs.adopted.Adopt.{get_or-data_from, length-data_from, place_in}
 use Rattle.sealed_pages.specs.Flushing.{Data}
-use Rattle.sealed_pages.proofs.memory.Holding.{div_place}
 use Rattle.sealed_pages.proofs.looking.Looking.{part_view}
 use Rattle.sealed_pages.proofs.EntryLemmas.{reads_start, reads_then}
 use Rattle.sealed_pages.proofs.looking.ReadLemmas.{read_data, touched_upto}
-use Rattle.sealed_pages.proofs.slots.SlotLemmas.{times_next, times_more}
 use Rattle.std.specs.Prelude.{OnErr}
 use Rattle.std.specs.Result.{IsErr}
 use Rattle.blob_device.specs.declared.runtime.RError.{RError}
 use Rattle.blob_device.specs.declared.runtime.RError.TheVariants.{Mem}
 use Rattle.sealed_pages.specs.Replays.{Begins}
 use Rattle.sealed_pages.proofs.cutting.Truncating.{no_value}
+use Rattle.blob_device.proofs.general.Numbers.{div_place, times_more, times_next}
 
 pub data_nil : (P m : ℕ) (v : View) (xs : List ℕ) → length xs ≡ 0 → xs ≡ data_from P v m (length xs)
 data_nil P m v xs none = read_data P m (length xs) v xs refl (λ i lt. absurd (omega (arith, lt, none)))

@@ -5,7 +5,6 @@ use Rattle.std.specs.List.{All, list_any, Contains}
 use Rattle.std.specs.Map.{lookup, lookup_entry, remove_entry, keys_of}
 use Rattle.std.specs.Option.{option_map, option_map_or, is_some, ForSome}
 use Rattle.std.proofs.lemmas.Map.Made.{is_some-lookup}
-use Rattle.sealed_pages.proofs.slots.SlotLemmas.{times_next}
 use Rattle.std.proofs.lemmas.Bool.{ne_eqb, eqb-true, cases_lt}
 use Rattle.std.proofs.lemmas.List.{take-map, take-take, length-map, get_or-take, get_or-drop}
 use Rattle.sealed_pages.specs.View.{view, page_at}
@@ -19,6 +18,7 @@ use Rattle.std.proofs.Math.Nat.{div-mul-le_self, lt-div-mul-add}
 use Rattle.sealed_pages.specs.Buffer.{Buffer, cached, AddsPages}
 use Rattle.sealed_pages.specs.declared.cache.PageCache.{PageCache}
 use Rattle.sealed_pages.specs.Cached.{entries_of, held_in, PutsFull, pages_down, full_pages, uncached, AreFull, AreWhole, IsCachedOf, AreCachedOf}
+use Rattle.blob_device.proofs.general.Numbers.{times_next}
 
 -- a page in a map, with its data bytes
 abbrev pub page_entry : ℕ × Vec ℕ Global → ℕ × List ℕ

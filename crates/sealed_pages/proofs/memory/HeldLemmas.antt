@@ -6,9 +6,8 @@ use Rattle.std.proofs.Math.Nat.{mul-le-mul_right}
 use Rattle.std.proofs.lemmas.Bool.{cases_lt}
 use Rattle.sealed_pages.specs.Buffer.{Buffer, size_of, is_cached}
 use Rattle.sealed_pages.specs.Reads.{IsWanted, IsHeld, below}
-use Rattle.sealed_pages.proofs.memory.Holding.{div_place}
 use Rattle.sealed_pages.proofs.looking.ReadLemmas.{page_before}
-use Rattle.sealed_pages.proofs.slots.SlotLemmas.{times_next}
+use Rattle.blob_device.proofs.general.Numbers.{div_place, times_next}
 
 -- the page that has a byte
 pub page_is : (P k i : ℕ) → 0 < P → k * P ≤ i → i < k * P + P → i / P ≡ k

@@ -1,15 +1,15 @@
 -- What a buffer holds, after a flush and after an append.
-use Rattle.std.proofs.Common.{◌≡◌, ◌⊎◌, inl, inr, ℕ, ◌+◌, ◌-◌, ◌*◌, ◌/◌, ◌^◌, ◌<◌, ◌≤◌, ◌||◌, Result, Bool, true, false, List, ◌++◌, length, get_or, take, drop, refl, sym, ◌∙◌, ap, subst, arith, length-append, length-drop}
-use Rattle.std.proofs.Math.Nat.{div-mul-le_self, div-lt_iff_lt-mul}
+use Rattle.std.proofs.Common.{◌≡◌, inl, inr, ℕ, ◌+◌, ◌-◌, ◌*◌, ◌/◌, ◌^◌, ◌<◌, ◌≤◌, ◌||◌, Result, Bool, false, List, ◌++◌, length, get_or, take, drop, refl, sym, ◌∙◌, ap, subst, arith, length-append, length-drop}
+use Rattle.std.proofs.Math.Nat.{div-lt_iff_lt-mul}
 use Rattle.std.proofs.lemmas.Nat.{le-div}
 use Rattle.std.proofs.lemmas.List.{get_or_append_left, get_or-append_right, ext_get_or}
-use Rattle.std.proofs.lemmas.Bool.{cases_lt}
+use Rattle.std.proofs.lemmas.Bool.{cases_Bool, cases_lt}
 use Rattle.blob_device.specs.declared.error.DevError.{DevError}
 use Rattle.blob_device.specs.Timeline.{Timeline, disk, Passes}
 use Rattle.blob_device.specs.Change.{Settle}
 use Rattle.blob_device.specs.Disk.{Key, Blob}
 use Rattle.blob_device.proofs.Moments.{only_start}
-use Rattle.sealed_pages.proofs.slots.SlotLemmas.{index_page, times_next, times_page, page_next}
+use Rattle.sealed_pages.proofs.slots.SlotLemmas.{index_page, times_page, page_next}
 use Rattle.sealed_pages.proofs.slots.SealedBytes.{stands_leaves}
 use Rattle.sealed_pages.proofs.adopted.Repairing.{page_order}
 use Rattle.sealed_pages.proofs.adopted.Adopt.{length-data_from, get_or-data_from, place_in}
@@ -20,6 +20,7 @@ use Rattle.sealed_pages.specs.ChanceSeal.{Leaves, Sealing}
 use Rattle.sealed_pages.specs.Flushing.{Data, Ready}
 use Rattle.sealed_pages.specs.SealedPrefix.{place, data_from}
 use Rattle.sealed_pages.specs.View.{View, view, page_at, StandsAt}
+use Rattle.blob_device.proofs.general.Numbers.{div_place, times_next, times_sum}
 
 -- all pages fit their places
 pub fit_room : (P first from : ℕ) (tip : List ℕ) → Fit P first from tip → (k : ℕ) → k * P < first * P + length tip → page_at P k + (P + 12) < 2 ^ 64
@@ -38,9 +39,6 @@ extent_more P n pos =
 -- the length fits
 pub fit_size : (P first from : ℕ) (tip : List ℕ) → Fit P first from tip → first * P + length tip < 2 ^ 64
 fit_size P first from tip fit = omega (arith, fit.room, extent_more P (first * P + length tip) (omega (arith, fit.begun)))
-
-pub times_sum : (a b n : ℕ) → (a + b) * n ≡ a * n + b * n
-times_sum a b n = omega arith
 
 -- full pages at the front of the tip are let go
 pub state_clean : (seal : List ℕ → ℕ) (P : ℕ) (all : List ℕ) (first from L : ℕ) (newest : Bool) (b : Blob) → Ready seal P all (first * P + from) L newest b → State seal P all first from L newest false false b
@@ -102,14 +100,10 @@ holds_more seal u v all more b is holds = subst (λ (x : Buffer). Holds seal x (
   size = omega (arith, holds.size, length-append all more, length-append u.tip more);
 })
 
-pub bool_or : (x : Bool) → (x ≡ true) ⊎ (x ≡ false)
-bool_or true = inl refl
-bool_or false = inr refl
-
 -- what a buffer holds outlives a crash now
 pub holds_leaves : (seal : List ℕ → ℕ) (u : Buffer) (all : List ℕ) (b : Blob) → u.from < u.page_size → Holds seal u all b → Leaves seal u.page_size all u.settled b
 holds_leaves seal u all b begun holds = let pos : 1 ≤ u.page_size = omega (arith, begun) in
-    elim (bool_or (u.behind || u.torn)) [
+    elim (cases_Bool (u.behind || u.torn)) [
       | inl left ↦ (let a = holds.state.adopted left in
           let kept = adopted_kept seal u.page_size pos all u.first u.from u.newest u.behind u.torn begun b a.0 in
           subst (λ (n : ℕ). Leaves seal u.page_size all n b) (sym a.1) (stands_leaves seal u.page_size b.content (flushed_of u) a.0.σ all b pos kept.covers kept.stands))
@@ -121,13 +115,10 @@ holds_start seal u all key t begun holds = only_start t key (Leaves seal u.page_
 
 -- what is held is what the buffer means
 pub holds_data : (seal : List ℕ → ℕ) (u : Buffer) (all : List ℕ) (b : Blob) → Holds seal u all b → Data u.page_size all (flushed_of u) (view b.content)
-holds_data seal u all b holds = elim (bool_or (u.behind || u.torn)) [
+holds_data seal u all b holds = elim (cases_Bool (u.behind || u.torn)) [
   | inl left ↦ (holds.state.adopted left).0.content.same
   | inr clean ↦ (holds.state.ready clean).flushed.same
 ]
-
-pub div_place : (P i : ℕ) → 0 < P → (i / P * P ≤ i) × (i < i / P * P + P)
-div_place P i pos = (div-mul-le_self i P, let below : i < (i / P + 1) * P = (div-lt_iff_lt-mul {k = P} {x = i} {y = i / P + 1} pos).0 (omega arith) in omega (arith, below, times_next (i / P) P))
 
 -- where the data below the tip are these bytes, and the tip is the end of them, they are what the buffer means
 pub bytes_is : (u : Buffer) (all content : List ℕ) → 0 < u.page_size → Data u.page_size all (u.first * u.page_size) (view content) → StandsAt all (u.first * u.page_size) u.tip → length all ≡ size_of u → bytes_of u content ≡ all

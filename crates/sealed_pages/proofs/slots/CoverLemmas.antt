@@ -8,7 +8,6 @@ use Rattle.std.proofs.lemmas.List.Elements.{All-nil, All-cons, All-weaker}
 use Rattle.blob_device.specs.Change.{Write, written}
 use Rattle.blob_device.specs.Disk.{Key, Blob}
 use Rattle.blob_device.specs.Timeline.{Timeline, disk, Passes}
-use Rattle.blob_device.proofs.Bytes.{length-written}
 use Rattle.blob_device.proofs.Moments.{ok_blob}
 use Rattle.blob_device.specs.declared.error.DevError.{DevError}
 use Rattle.sealed_pages.specs.Cached.{full_pages, AreFull, IsCachedOf, AreCachedOf}
@@ -20,9 +19,11 @@ use Rattle.sealed_pages.proofs.looking.Looking.{page_length_is}
 use Rattle.sealed_pages.proofs.slots.PageCalls.{page_wrote}
 use Rattle.sealed_pages.proofs.adopted.Repairing.{page_order}
 use Rattle.sealed_pages.proofs.slots.SealedBytes.{page_length-le}
-use Rattle.sealed_pages.proofs.slots.SlotLemmas.{times_next, times_more, page_next, slot_length-le, slot_stands, slot_same}
+use Rattle.sealed_pages.proofs.slots.SlotLemmas.{page_next, slot_length-le, slot_stands, slot_same}
 use Rattle.sealed_pages.proofs.slots.SlotSteps.{length-slot_bytes, slot_matches, slot_is}
 use Rattle.sealed_pages.proofs.slots.Steps.{slot_high}
+use Rattle.blob_device.specs.Lengths.{length-written}
+use Rattle.blob_device.proofs.general.Numbers.{times_more, times_next}
 
 -- the two writes of a page of a flush: the slot covers its bytes
 pub page_covers : (seal : List ℕ → ℕ) (P : ℕ) (bytes : List ℕ) (key : Key) (t0 : Timeline) (k f : ℕ) (page : List ℕ) (b : Bool) → ((x : List ℕ) → seal x < 2 ^ 32) → P < 2 ^ 16 → page_at P k + (P + 12) < 2 ^ 64

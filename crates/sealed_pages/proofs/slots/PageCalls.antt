@@ -16,9 +16,9 @@ use Rattle.sealed_pages.specs.View.{View, view, page_at, slot_at, StandsAt}
 use Rattle.blob_device.proofs.GuardsLemmas.{sealed_start, sealed_on}
 use Rattle.sealed_pages.proofs.HadLemmas.{had_settled, had_write}
 use Rattle.sealed_pages.proofs.slots.SealedBytes.{stands_leaves, all_map}
-use Rattle.sealed_pages.proofs.slots.SlotLemmas.{times_more}
 use Rattle.sealed_pages.proofs.slots.Steps.{tidy_sound, data_quiet, data_same}
 use Rattle.sealed_pages.proofs.slots.SlotSteps.{stands_settled, length-slot_bytes, slot_data_kept, held_data, held_slot, flushed_page}
+use Rattle.blob_device.proofs.general.Numbers.{times_more}
 
 pub only_weaker : (a b : Timeline) (k : Key) (from : Disk) (Q R : Blob → Type 0) → ((x : Blob) → Q x → R x) → Always a b (OnlyAt k from Q) → Always a b (OnlyAt k from R)
 only_weaker a b k from Q R weaker always = always_weaker a b (OnlyAt k from Q) (OnlyAt k from R) (λ d only. record { here = weaker (d k) only.here; others = only.others }) always

@@ -12,8 +12,9 @@ use Rattle.sealed_pages.specs.Flushing.{Sound, Covers, Held, Stands}
 use Rattle.sealed_pages.specs.SealedPrefix.{pages_in, sealed_from, sealed_prefix, Prefix}
 use Rattle.sealed_pages.specs.Slots.{slot_length, page_length}
 use Rattle.sealed_pages.specs.View.{view, bytes_at, page_at, slot_at}
-use Rattle.sealed_pages.proofs.slots.SlotLemmas.{times_next, length-bytes_at, get_or-bytes_at, slot_length-le, slot_named, slot_stands, slot_same}
+use Rattle.sealed_pages.proofs.slots.SlotLemmas.{length-bytes_at, get_or-bytes_at, slot_length-le, slot_named, slot_stands, slot_same}
 use Rattle.blob_device.proofs.GuardsLemmas.{guards_crash, guards_left}
+use Rattle.blob_device.proofs.general.Numbers.{times_next}
 
 module _ (seal : List ℕ → ℕ) (P : ℕ) where
   pub rest : List ℕ → ℕ → ℕ → List ℕ

@@ -1,17 +1,12 @@
 -- Where pages and slots stand, and what decides whether a slot matches.
 use Rattle.std.proofs.Common.{◌≡◌, ◌⊎◌, inl, inr, ℕ, zero, suc, ◌+◌, ◌*◌, ◌^◌, ◌<◌, ◌≤◌, ◌&&◌, leb, eqb, Bool, true, false, cond, List, ◌∷◌, ◌++◌, length, get_or, refl, sym, ◌∙◌, ap, subst, arith}
 use Rattle.std.specs.Int.{w16, w32, from_be_bytes}
-use Rattle.std.proofs.Math.Nat.{mul-le-mul_right, mul-le-mul_left, le-mul_of_pos_right}
+use Rattle.std.proofs.Math.Nat.{mul-le-mul_left, le-mul_of_pos_right}
 use Rattle.std.proofs.lemmas.Bool.{cases_lt, le-leb, leb-true, lt-ltb, ltb-true}
 use Rattle.std.proofs.lemmas.Bool.Decides.{leb_tells}
 use Rattle.sealed_pages.specs.Slots.{named_length, named_seal, has_places, is_whole, slot_length}
 use Rattle.sealed_pages.specs.View.{View, view, bytes_at, page_at, slot_at}
-
-pub times_next : (k n : ℕ) → (k + 1) * n ≡ k * n + n
-times_next k n = omega arith
-
-pub times_more : (j k n : ℕ) → j < k → j * n + n ≤ k * n
-times_more j k n lt = let le : j + 1 ≤ k = omega (arith, lt) in omega (arith, mul-le-mul_right n le, times_next j n)
+use Rattle.blob_device.proofs.general.Numbers.{times_more, times_next}
 
 pub page_next : (P k : ℕ) → page_at P (k + 1) ≡ page_at P k + (P + 12)
 unfolding page_at

@@ -6,15 +6,16 @@ use Rattle.std.proofs.lemmas.Nat.{from_be_bytes-to_be_bytes_2, from_be_bytes-to_
 use Rattle.std.proofs.lemmas.List.{get_or_append_left, get_or-append_right, ext_get_or}
 use Rattle.blob_device.specs.Disk.{Blob, settled_at}
 use Rattle.blob_device.specs.Change.{Write, written}
-use Rattle.blob_device.proofs.Bytes.{length-written}
 use Rattle.sealed_pages.specs.Flushing.{with_slot, Quiet, Data, Sound, Covers, Held, Stands, Flushed}
 use Rattle.sealed_pages.specs.Slots.{named_length, named_seal, is_whole, slot_length, slot_bytes}
 use Rattle.sealed_pages.specs.View.{View, view, bytes_at, page_at, slot_at}
 use Rattle.blob_device.specs.Guards.{Guards, Avoids}
-use Rattle.blob_device.proofs.Places.{written_out, written_in}
 use Rattle.blob_device.proofs.GuardsLemmas.{guards_settled}
-use Rattle.sealed_pages.proofs.slots.SlotLemmas.{times_more, length-bytes_at, get_or-bytes_at, whole_true, slot_length-le, slot_named, slot_at_most, slot_stands, slot_same}
+use Rattle.sealed_pages.proofs.slots.SlotLemmas.{length-bytes_at, get_or-bytes_at, whole_true, slot_length-le, slot_named, slot_at_most, slot_stands, slot_same}
 use Rattle.sealed_pages.proofs.slots.Steps.{slot_data, data_slot, slot_slot, data_data, slot_low, named_same, tidy_sound, data_slots, data_quiet, data_same, data_below}
+use Rattle.blob_device.specs.Lengths.{length-written}
+use Rattle.blob_device.specs.Places.{written_in, written_out}
+use Rattle.blob_device.proofs.general.Numbers.{times_more}
 
 pub quiet_more : (P F G : ℕ) (v : View) → F ≤ G → Quiet P F v → Quiet P G v
 quiet_more P F G v le quiet k b part = omega (arith, le, part, quiet k b (omega (arith, le, part)))

@@ -6,8 +6,9 @@ use Rattle.blob_device.specs.Change.{written}
 use Rattle.sealed_pages.specs.Flushing.{Quiet, Data, Sound, Below}
 use Rattle.sealed_pages.specs.Slots.{named_length}
 use Rattle.sealed_pages.specs.View.{View, view, page_at, slot_at}
-use Rattle.blob_device.proofs.Places.{written_out, written_in}
-use Rattle.sealed_pages.proofs.slots.SlotLemmas.{times_more, page_apart, named_bytes, slot_length-le, slot_at_most}
+use Rattle.sealed_pages.proofs.slots.SlotLemmas.{page_apart, named_bytes, slot_length-le, slot_at_most}
+use Rattle.blob_device.specs.Places.{written_in, written_out}
+use Rattle.blob_device.proofs.general.Numbers.{times_more}
 
 module _ (P : ℕ) where
   pub slot_low : (k : ℕ) (b : Bool) → page_at P k + P ≤ slot_at P k b

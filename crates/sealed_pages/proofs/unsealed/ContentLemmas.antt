@@ -8,14 +8,14 @@ use Rattle.blob_device.specs.declared.error.DevError.{DevError}
 use Rattle.blob_device.specs.Disk.{Key, Blob, past}
 use Rattle.blob_device.specs.Change.{Change, Write, Resize, Settle, during, done, FailedTo, written, resized}
 use Rattle.blob_device.specs.Timeline.{Timeline, disk, Passes, OnlyAt}
-use Rattle.blob_device.proofs.Bytes.{length-written}
-use Rattle.blob_device.proofs.GuardsLemmas.{all_push}
 use Rattle.blob_device.proofs.Moments.{always_start, always_now, always_then, always_weaker}
 use Rattle.sealed_pages.specs.Contents.{AllSince, KeepsAll, AddsOnly}
 use Rattle.sealed_pages.specs.unsealed.Writing.{WriteBuffer, blob_key, bytes_of, size_of, is_idle, short_run}
 use Rattle.sealed_pages.proofs.unsealed.SparingLemmas.{any_call}
 use Rattle.sealed_pages.proofs.WriteLemmas.{written_cut}
 use Rattle.sealed_pages.proofs.unsealed.WritingLemmas.{idle_bytes}
+use Rattle.blob_device.specs.Lengths.{length-written}
+use Rattle.blob_device.proofs.general.Lists.{all_push}
 
 module _ (Q : List ℕ → Type 0) where
   all_append : (xs ys : List (List ℕ)) → AllByRecursion Q xs → AllByRecursion Q ys → AllByRecursion Q (xs ++ ys)

@@ -8,7 +8,6 @@ use Rattle.blob_device.specs.declared.runtime.RError.{RError}
 use Rattle.blob_device.specs.Disk.{Key, Outside, settled_at}
 use Rattle.blob_device.specs.Timeline.{Timeline, disk, Passes}
 use Rattle.blob_device.specs.Change.{Resize}
-use Rattle.blob_device.proofs.Bytes.{length-written}
 use Rattle.sealed_pages.specs.Calls.{FailsBelow}
 use Rattle.sealed_pages.specs.Contents.{AddsOnly}
 use Rattle.sealed_pages.specs.Entries.{IsOpenAt, NoReads}
@@ -23,6 +22,7 @@ use Rattle.sealed_pages.proofs.cutting.Truncating.{no_value}
 use Rattle.sealed_pages.proofs.WriteLemmas.{written_cut, resized_within}
 use Rattle.sealed_pages.proofs.unsealed.WritingLemmas.{idle_bytes}
 use Rattle.sealed_pages.proofs.unsealed.Settled.{SettledAs, settled_as}
+use Rattle.blob_device.specs.Lengths.{length-written}
 
 -- What the resize of such a cut has done: u is the buffer before it.
 pub record ShortBy (u : WriteBuffer) (n : ℕ) (t0 t1 : Timeline) : Type 0 where

@@ -10,7 +10,6 @@ use Rattle.blob_device.specs.declared.runtime.RError.TheVariants.{OffsetOverflow
 use Rattle.blob_device.specs.Disk.{Key, Outside}
 use Rattle.blob_device.specs.Keeps.{Keeps}
 use Rattle.blob_device.specs.Timeline.{Timeline, disk}
-use Rattle.blob_device.proofs.Places.{written_out}
 use Rattle.sealed_pages.specs.Calls.{FailsBelow}
 use Rattle.sealed_pages.specs.Contents.{AddsOnly}
 use Rattle.sealed_pages.specs.Entries.{NoReads}
@@ -24,6 +23,7 @@ use Rattle.sealed_pages.proofs.unsealed.SparingLemmas.{sparing_start, sparing_we
 use Rattle.sealed_pages.proofs.unsealed.Tails.{tail_kept, tail_flushed, put_run}
 use Rattle.sealed_pages.proofs.cutting.Truncating.{no_value}
 use Rattle.sealed_pages.proofs.unsealed.WritingLemmas.{put_joins, put_bytes, put_below, put_spares, written_last}
+use Rattle.blob_device.specs.Places.{written_out}
 
 -- What it has done to the blob of the buffer u by some time.
 pub record PutBy (u : WriteBuffer) (offset : ℕ) (bytes : List ℕ) (t0 t1 : Timeline) : Type 0 where

@@ -8,10 +8,10 @@ use Rattle.std.proofs.lemmas.List.Edits.{paste_all}
 use Rattle.std.proofs.lemmas.Slice.{put_mid-paste}
 use Rattle.std.proofs.Math.ListN.{length-replicate}
 use Rattle.blob_device.specs.Change.{written}
-use Rattle.blob_device.proofs.Bytes.{length-written}
-use Rattle.blob_device.proofs.Places.{written_out}
 use Rattle.sealed_pages.specs.Filled.{HasBytes}
 use Rattle.sealed_pages.proofs.WriteLemmas.{written_inside}
+use Rattle.blob_device.specs.Lengths.{length-written}
+use Rattle.blob_device.specs.Places.{written_out}
 
 -- after a copy into a part
 pub put_mid_written : (a k : ℕ) (xs ys zs : List ℕ) → ys ≡ zs → length zs ≡ k → a ≤ length xs → put_mid a k xs ys ≡ written xs a zs

@@ -1,9 +1,9 @@
 -- What stays unflushed behind an append.
 use Rattle.std.proofs.Common.{◌≡◌, ◌⊎◌, inl, inr, ℕ, ◌+◌, ◌-◌, ◌<◌, ◌≤◌, ◌&&◌, cond, max, leb, ltb, List, [], length, ◌∙◌, sym, ap, arith}
 use Rattle.std.proofs.lemmas.Bool.{cases_lt, cond_below, cond_above, cond-true, cond-false, and_parts, and_from, leb-true, le-leb, false_from_ne_true}
-use Rattle.blob_device.proofs.Bytes.{length-written}
 use Rattle.sealed_pages.specs.Tails.{tail_after, run_with, run_at_end}
 use Rattle.sealed_pages.specs.unsealed.Writing.{WriteBuffer, size_of, Joins, StandsBehind, with_bytes_put}
+use Rattle.blob_device.specs.Lengths.{length-written}
 
 -- below the capacity nothing is flushed
 pub tail_kept : (capacity tail added n : ℕ) → n ≡ tail + added → n < capacity → n ≡ tail_after capacity tail added

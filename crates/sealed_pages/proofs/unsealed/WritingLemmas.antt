@@ -9,7 +9,7 @@ use Rattle.blob_device.specs.Opened.{Opened, OpenedList, updated, with_len, one_
 use Rattle.blob_device.proofs.OpenedLemmas.{updated_other}
 use Rattle.blob_device.proofs.Puts.{put_same}
 use Rattle.blob_device.specs.Timeline.{Timeline, disk, Passes}
-use Rattle.blob_device.proofs.Bytes.{length-written, written_end}
+use Rattle.blob_device.proofs.Bytes.{written_end}
 use Rattle.blob_device.proofs.Moments.{ok_blob}
 use Rattle.sealed_pages.specs.Contents.{IsHad}
 use Rattle.sealed_pages.specs.Entries.{IsOpenAt, NoReads, ReadsAtMost}
@@ -19,6 +19,7 @@ use Rattle.sealed_pages.specs.unsealed.Writing.{WriteBuffer, blob_key, bytes_of,
 use Rattle.sealed_pages.proofs.HadLemmas.{had_rest}
 use Rattle.sealed_pages.proofs.EntryLemmas.{open_some, open_updated, no_reads_part, no_reads_updated, no_reads_resize, open_written, open_resized}
 use Rattle.sealed_pages.proofs.WriteLemmas.{written_nothing, written_again, written_twice}
+use Rattle.blob_device.specs.Lengths.{length-written}
 
 empty : (l : List ℕ) → length l ≡ 0 → l ≡ []
 empty [] e = refl

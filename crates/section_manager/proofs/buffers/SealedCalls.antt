@@ -6,7 +6,6 @@ use Rattle.blob_device.specs.declared.runtime.RError.{RError}
 use Rattle.blob_device.specs.declared.runtime.RError.TheVariants.{Fault, InvalidChecksum, Mem}
 use Rattle.blob_device.specs.Disk.{Key}
 use Rattle.blob_device.specs.Timeline.{Timeline, disk}
-use Rattle.blob_device.proofs.Results.{if_ok_with}
 use Rattle.sealed_pages.specs.Buffer.{Buffer, size_of, bytes_of, IsBacked, IsSealed}
 use Rattle.sealed_pages.specs.ChanceSeal.{NoChanceSeal, Sealing}
 use Rattle.sealed_pages.specs.ChanceSeal as chance
@@ -17,11 +16,11 @@ use Rattle.sealed_pages.specs.Shown.{shown}
 use Rattle.sealed_pages.specs.Unrecovered.{KeepsPrefix, IsUnrecovered, IsRecovery, IsAdopted, IsSafeCut}
 use Rattle.sealed_pages.proofs.cutting.Calls.{sealing_less}
 use Rattle.sealed_pages.proofs.slots.PageCalls.{only_weaker}
-use Rattle.sealed_pages.proofs.cutting.Truncating.{map_ok}
 use Rattle.sealed_pages.proofs.UnrecoveredLemmas.{keeps_sealing}
 use Rattle.section_manager.specs.Leaving.{Leaves, AllMoments}
 use Rattle.section_manager.specs.Sealed.{adopted_bytes, Stands, MayKeep}
 use Rattle.section_manager.specs.SealedLaws.{sealed_keeps, unrecovered_keeps, again}
+use Rattle.blob_device.proofs.general.Results.{if_ok_with, map_ok}
 
 ok_has : {T E : Type 0} (r : Result T E) (P : T → Type 0) → IsOkAnd r P → IfOk r P
 ok_has (Ok v) P has = has

@@ -1,15 +1,10 @@
 -- What cuts of sections make of a manager.
 use Rattle.std.specs.Prelude.{◌≡◌, ◌≢◌, ◌⊎◌, ℕ, ◌<◌, ◌≤◌, min, true, false, List, take, Option, None, Some, IsSome, IsSomeAnd, Result, OnErr}
-use Rattle.std.proofs.Common.{Bor, map, [], ◌∷◌, ◌++◌, inl, inr, Err, refl, sym, ◌∙◌, ap, subst, arith}
+use Rattle.std.proofs.Common.{[], ◌∷◌, ◌++◌, inl, inr, Err, refl, sym, ◌∙◌, ap, subst, arith}
 use Rattle.std.specs.List.{Contains}
-use Rattle.std.specs.Map.{keys_of}
-use Rattle.std.specs.Map.Iter.{deref_pair}
 use Rattle.std.specs.Option.{unwrap_or, is_some}
-use Rattle.std.proofs.lemmas.List.{map-append}
 use Rattle.std.proofs.lemmas.List.Elements.{Contains-append_left, Contains-push, Contains-push_cases}
-use Rattle.std.specs.Ordering.{eq_by_cmp, nat_cmp}
 use Rattle.std.proofs.lemmas.Bool.{cases_lt, false≢true}
-use Rattle.std.proofs.lemmas.Bool.Decides.{nat_tests}
 use Rattle.std.proofs.lemmas.List.{take_all}
 use Rattle.blob_device.specs.declared.runtime.RError.{RError}
 use Rattle.blob_device.specs.declared.runtime.RError.TheVariants.{Fault, InvalidChecksum, BlobInsufficientLength, OffsetOverflow, Mem as RMem}
@@ -31,7 +26,9 @@ use Rattle.section_manager.specs.Sections.{Sections, key_of, IsSame, SameBounds,
 use Rattle.section_manager.specs.Lasting.{Cutting, IsLonger}
 use Rattle.section_manager.proofs.sections.SyncLemmas.{BufferLaws}
 use Rattle.section_manager.proofs.sections.OverLemmas.{same_key}
-use Rattle.section_manager.proofs.WalkLemmas.{some_same, has_value, contains_or_not, Rules, Tries, Tried, Walked, Walking, tried_start, walked_start, untouched, tried_more, walked_more}
+use Rattle.section_manager.proofs.WalkLemmas.{Rules, Tries, Tried, Walked, Walking, tried_start, walked_start, untouched, tried_more, walked_more}
+use Rattle.blob_device.proofs.general.Lists.{contains_or_not}
+use Rattle.blob_device.proofs.general.Options.{has_value, some_same}
 
 -- a damaged page that a section's call answers is one that the buffer's call answered
 pub raised_page : (e : RError) (page : ℕ) → raised e ≡ Runtime (InvalidChecksum page) → e ≡ InvalidChecksum page
@@ -67,9 +64,6 @@ same_cause {S = S} {T = T} r e floor before mid after is le cause = subst (λ (x
     again (inl damage) = let same : e ≡ Runtime (InvalidChecksum damage.0) = cc damage.1 in inr (inl (damage.0, cc same))
     again (inr (inl memory)) = let same : e ≡ Mem = cc memory in inr (inr (inl (cc same)))
     again (inr (inr fault)) = let same : e ≡ Runtime Fault = cc fault.0 in inr (inr (inr (cc same, omega (arith, fault.1, le))))
-
-pub same_number : (x y : ℕ) → eq_by_cmp nat_cmp x y ≡ true → x ≡ y
-same_number x y is = grind (arith, nat_tests)
 
 pub not_below : (n k : ℕ) → (n < k → ⊥) → k ≤ n
 not_below n k not = elim (cases_lt n k) [
@@ -251,14 +245,3 @@ module _ {F B : Type 0} (g : buffer.Ghosts B) (gives : F → Setting) (told : Ty
             pushed : (q : ℕ) → Contains ks q ⊎ (s ≡ q) → Contains ks q ⊎ (q ≡ s)
             pushed q (inl before) = inl before
             pushed q (inr is) = inr (sym is)
-
--- the numbers in the pairs that a loop over a map has given
-abbrev pub numbers_of : List (Bor ℕ × Bor ℕ) → List ℕ
-numbers_of l = map (λ p. p.0.now) l
-
-pub numbers_push : (l : List (Bor ℕ × Bor ℕ)) (p : Bor ℕ × Bor ℕ) → numbers_of (l ++ p ∷ []) ≡ numbers_of l ++ p.0.now ∷ []
-numbers_push l p = map-append (λ (q : Bor ℕ × Bor ℕ). q.0.now) l (p ∷ [])
-
-pub numbers_shown : (l : List (Bor ℕ × Bor ℕ)) → numbers_of l ≡ keys_of (map deref_pair l)
-numbers_shown [] = refl
-numbers_shown (p ∷ l) = ap (λ (k : List ℕ). p.0.now ∷ k) (numbers_shown l)

@@ -8,7 +8,6 @@ use Rattle.blob_device.specs.Disk.{AreNamesIn, Disk}
 use Rattle.blob_device.specs.Opened.{OpenedList, reads_of}
 use Rattle.blob_device.specs.Timeline.{disk}
 use Rattle.blob_device.specs.declared.device.Device as device
-use Rattle.blob_device.proofs.Results.{on_err}
 use Rattle.sealed_pages.specs.Reading.{Unchanged}
 use Rattle.sealed_pages.proofs.looking.Looking.{unchanged_now}
 use Rattle.section_manager.specs.declared.buffer.SectionBuffer as buffer
@@ -21,7 +20,8 @@ use Rattle.section_manager.specs.Refusing.{HasFailed, IsForeign}
 use Rattle.section_manager.specs.Sections.{Sections, section_key, key_of, IsHeld, IsKnown, IsOver}
 use Rattle.section_manager.specs.Setting.{Setting}
 use Rattle.section_manager.proofs.InitLemmas.{Found, Opened, above_unopened, found_over, held_wanted, listed_there, none_foreign, none_leftover, opened_as, settling_after, settling_start, settling_unchanged, there_listed, unopened_above}
-use Rattle.section_manager.proofs.Seen.{failed_again, failed_unnamed, if_ok_weaker}
+use Rattle.section_manager.proofs.Seen.{failed_again, failed_unnamed}
+use Rattle.blob_device.proofs.general.Results.{if_ok_weaker, on_err}
 
 -- an opening that was refused for no name
 pub not_named : {T : Type 0} (r : Result T Error) (n : List ℕ) (a b : ℕ) → OnErr r (HasFailed r a b) → r ≡ Err (InvalidBlobName n) → ⊥

@@ -19,7 +19,9 @@ use Rattle.section_manager.specs.Setting.{Setting}
 use Rattle.section_manager.specs.Sections.{Sections, key_of, IsHeld, IsSame, SameBounds, IsOver, IsSynced}
 use Rattle.section_manager.specs.Lasting.{Syncing}
 use Rattle.section_manager.proofs.sections.OverLemmas.{same_key, HasOpenedAt, StandsAt, over_changed}
-use Rattle.section_manager.proofs.WalkLemmas.{some_same, contains_or_not, Rules, Tries, Makes, Tried, Walked, Walking, tried_start, walked_start, tried_more, walked_more}
+use Rattle.section_manager.proofs.WalkLemmas.{Rules, Tries, Makes, Tried, Walked, Walking, tried_start, walked_start, tried_more, walked_more}
+use Rattle.blob_device.proofs.general.Lists.{contains_or_not}
+use Rattle.blob_device.proofs.general.Options.{some_same}
 
 -- what is known of each buffer
 pub record BufferLaws {B : Type 0} (g : buffer.Ghosts B) : Type 0 where

@@ -1,5 +1,5 @@
 -- What removing the later sections, and then shortening one, leaves of the blobs.
-use Rattle.std.specs.Prelude.{◌≡◌, ◌⊎◌, ℕ, ◌^◌, ◌<◌, ◌≤◌, min, List, IsSomeAnd, Option, None, Some, IsSome, Result, Ok, Err, IfOk, OnErr}
+use Rattle.std.specs.Prelude.{◌≡◌, ◌⊎◌, ℕ, ◌^◌, ◌<◌, ◌≤◌, min, List, IsSomeAnd, Option, None, Some, IsSome, Result, Ok, Err, OnErr}
 use Rattle.std.proofs.Common.{inl, inr, refl, sym, ◌∙◌, ap, subst, arith}
 use Rattle.std.proofs.lemmas.Bool.{cases_lt}
 use Rattle.blob_device.specs.Disk.{Key, Blob, Disk, nothing}
@@ -14,11 +14,6 @@ use Rattle.section_manager.specs.Refusing.{HasFailed, IsPruned, HasDamage}
 use Rattle.section_manager.specs.Entries.{StartsNoRead}
 use Rattle.section_manager.specs.Sections.{Sections, section_key, key_of, IsKnown}
 use Rattle.section_manager.proofs.sections.KeyLemmas.{key_injective, keys_differ}
-
--- what holds of an answer, or of a value, by what held of it
-pub ok_so : {T E : Type 0} {P R : T → Type 0} (r : Result T E) → IfOk r P → ((v : T) → P v → R v) → IfOk r R
-ok_so (Ok v) is f = f v is
-ok_so (Err e) is f = tt
 
 pub some_so : {T : Type 0} {P R : T → Type 0} (o : Option T) → IsSomeAnd o P → ((v : T) → P v → R v) → IsSomeAnd o R
 some_so None is f = is

@@ -6,12 +6,12 @@ use Rattle.std.proofs.lemmas.Bool.Decides.{nat_tests}
 use Rattle.std.proofs.lemmas.List.Elements.{recursion_from_All, All-contains_itself}
 use Rattle.blob_device.specs.Change.{written}
 use Rattle.blob_device.specs.Disk.{Blob, past}
-use Rattle.blob_device.proofs.Bytes.{length-written}
 use Rattle.sealed_pages.proofs.WriteLemmas.{written_nothing}
 use Rattle.sealed_pages.specs.declared.write_blob.WriteBlob.{WriteBlob}
 use Rattle.sealed_pages.specs.Cutting.{IsAtRest}
 use Rattle.section_manager.specs.Leaving.{Leaves}
 use Rattle.section_manager.specs.unsealed.Buffer.{Stands, IsWhole, IsOldOrFront, MayKeep, content_of, count_of, settled_of, is_unsettled}
+use Rattle.blob_device.specs.Lengths.{length-written}
 
 -- what is known of each has a weaker form
 pub all_weaker : (P Q : List ℕ → Type 0) (cs : List (List ℕ)) → ((c : List ℕ) → P c → Q c) → AllByRecursion P cs → AllByRecursion Q cs

@@ -1,9 +1,9 @@
 use Rattle.std.proofs.Common.{◌≡◌, Bool, Result, Ok, Err, ap, subst, arith}
-use Rattle.blob_device.proofs.Results.{err_of}
 use Rattle.archive_program.specs.declared.input.InputError.{InputError}
 use Rattle.archive_program.specs.declared.input.InputError.TheVariants.{Mem}
 use Rattle.archive_program.proofs.InputLemmas.{not_begun, taken_more, taken_all, taken_at_most, taken_before, later_cause}
 use Rattle.archive_program.proofs.input.read_input.Goals as goal
+use Rattle.blob_device.proofs.general.Results.{err_of}
 
 pub pieces-preserved : goal.pieces-preserved
 pieces-preserved g c = record {

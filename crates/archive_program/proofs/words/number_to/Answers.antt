@@ -3,10 +3,10 @@ use Rattle.std.proofs.Common.{None, Some, subst, sym, ◌∙◌, arith}
 use Rattle.std.specs.Fmt.{decimal}
 use Rattle.archive_service.specs.Script.{IsIndex}
 use Rattle.archive_service.specs.Reading.{IsReading}
-use Rattle.archive_service.proofs.WordLemmas.{if_none}
 use Rattle.archive_program.proofs.WordsLemmas.{no_number, number_out}
 use Rattle.archive_program.proofs.words.number_to.Goals as goal
 use Rattle.archive_program.proofs.words.number_to.Goals.{then-number-lt1-via-then-number-lt1, then-number-lt1-via-else-number-lt1+then-number-limit}
+use Rattle.blob_device.proofs.general.Options.{if_none}
 
 pub returns-in_err-number-clause-none : goal.returns-in_err-number-clause-none
 returns-in_err-number-clause-none c =

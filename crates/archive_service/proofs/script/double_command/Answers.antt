@@ -1,8 +1,9 @@
 -- Each name has its reading of the two words.
 use Rattle.value_codec.specs.Keys.{key8_bytes}
 use Rattle.archive_service.proofs.LineLemmas.{double_found, double_refused, double_unnamed, hasat_named, missing_named}
-use Rattle.archive_service.proofs.WordLemmas.{if_none, other_word}
+use Rattle.archive_service.proofs.WordLemmas.{other_word}
 use Rattle.archive_service.proofs.script.double_command.Goals as goal
+use Rattle.blob_device.proofs.general.Options.{if_none}
 
 pub returns-in_err-index-clause-none : goal.returns-in_err-index-clause-none
 returns-in_err-index-clause-none c = λ lacks.

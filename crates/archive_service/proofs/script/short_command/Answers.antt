@@ -1,8 +1,9 @@
 -- Each name has its reading of the word.
 use Rattle.value_codec.specs.Keys.{key8_bytes}
 use Rattle.archive_service.proofs.LineLemmas.{all_named, gap_named, get_named, getk_named, has_named, hask_named, prune_named, rangesfrom_named, short_found, short_refused, short_unnamed}
-use Rattle.archive_service.proofs.WordLemmas.{if_none, other_word}
+use Rattle.archive_service.proofs.WordLemmas.{other_word}
 use Rattle.archive_service.proofs.script.short_command.Goals as goal
+use Rattle.blob_device.proofs.general.Options.{if_none}
 
 pub returns-in_err-index_of-clause-none : goal.returns-in_err-index_of-clause-none
 returns-in_err-index_of-clause-none c = if_none _ _ (short_refused get_named c.args.name.now c.args.word.now c.as_slice.ensures c.if-eq.ensures c.in_err-index_of.ensures)

@@ -1,11 +1,11 @@
 use Rattle.std.proofs.Common.{◌≡◌, sym, ◌∙◌, ◌+◌, ap, length, map, Err, arith}
 use Rattle.std.proofs.lemmas.List.{length-map}
-use Rattle.blob_device.proofs.Results.{err_of}
 use Rattle.archives.specs.Machine.{asked, replied}
 use Rattle.archive_service.specs.Stores.{PutsOnly}
 use Rattle.archive_service.proofs.LoopSteps.{all_at, all_served, begins, ends_unopened, ends_wrong, one_reply_more, seen_at}
 use Rattle.archive_service.proofs.ServingLoop.{goes_on}
 use Rattle.archive_service.proofs.serving.serve_each.Goals as goal
+use Rattle.blob_device.proofs.general.Results.{err_of}
 
 -- ---- the opening
 

@@ -1,9 +1,9 @@
 use Rattle.std.proofs.Common.{◌≡◌, ap, map, Err}
-use Rattle.blob_device.proofs.Results.{err_of}
 use Rattle.archives.specs.Machine.{replied}
 use Rattle.archives.specs.declared.error.Error.TheVariants.{Mem}
 use Rattle.archive_service.proofs.LoopSteps.{one_kept, one_refused, one_unkept}
 use Rattle.archive_service.proofs.serving.serve_one.Goals as goal
+use Rattle.blob_device.proofs.general.Results.{err_of}
 
 pub returns-in_err-archive : goal.returns-in_err-archive
 returns-in_err-archive g c =

@@ -5,10 +5,10 @@ use Rattle.value_codec.specs.declared.key.Key8.{Key8}
 use Rattle.meta_store.specs.Calls.{IsOpened}
 use Rattle.meta_store.specs.Copies.{IsStorable}
 use Rattle.meta_store.specs.Store.{Store, MayBeSynced, shown, staging}
-use Rattle.meta_store.proofs.Inserting.{all_inserted}
 use Rattle.meta_store_tests.specs.Over.{map_format}
 use Rattle.meta_store_tests.proofs.OverLemmas.{entries_stay, partition_stays}
 use Rattle.meta_store_tests.proofs.steps.put_at_once.Goals as goal
+use Rattle.blob_device.proofs.general.Maps.{all_inserted}
 
 pub put_sync-requires-clause-storable : goal.put_sync-requires-clause-storable
 put_sync-requires-clause-storable c = all_inserted map_format.compare (IsStorable map_format) c.args.map.entries.entries c.key.result c.args.value c.requires.storable (record { accepted = c.ranges.value.fits; fits = search rules })

@@ -1,9 +1,9 @@
 use Rattle.std.proofs.Common.{◌+◌, ◌*◌, ◌/◌, ◌<◌, ◌≤◌, ℕ, length, refl, subst, arith}
-use Rattle.blob_device.proofs.Results.{err_of}
 use Rattle.sealed_pages.specs.unsealed.Writing.{shown, size_of}
 use Rattle.ordinal_store.specs.Stores.{sight}
 use Rattle.ordinal_store.proofs.ClearLemmas.{clear_all, clear_failed, clear_start, clear_then, room_below}
 use Rattle.ordinal_store.proofs.mending.clear_unmarked.Goals as goal
+use Rattle.blob_device.proofs.general.Results.{err_of}
 
 pub loop-position-init : goal.loop-position-init
 loop-position-init g c = clear_start g.D.Device.Tells (length c.args.zeros.now) c.args.bits.now (sight g.D.Device c.args.dev.now) c.args.buffer c.requires.clearable

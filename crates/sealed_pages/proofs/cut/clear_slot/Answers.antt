@@ -1,5 +1,4 @@
 use Rattle.sealed_pages.proofs.cutting.Truncating.{no_value}
-use Rattle.blob_device.proofs.Results.{err_of}
 use Rattle.sealed_pages.proofs.cutting.Settled.{not_changed, not_settled, is_settled}
 use Rattle.std.proofs.Common.{not, refl, arith, rules, inl, inr}
 use Rattle.sealed_pages.proofs.cutting.Calls.{zeros_one, zeros_two, settled_after, not_other}
@@ -10,6 +9,7 @@ use Rattle.sealed_pages.proofs.Fronts.{front_start, front_write}
 use Rattle.sealed_pages.specs.View.{page_at}
 use Rattle.sealed_pages.specs.SlotNames.{is_b, opened_key}
 use Rattle.sealed_pages.proofs.cut.clear_slot.Goals as goal
+use Rattle.blob_device.proofs.general.Results.{err_of}
 
 pub write_at-requires-clause-open : goal.write_at-requires-clause-open
 write_at-requires-clause-open g c =

@@ -1,9 +1,9 @@
 use Rattle.std.proofs.Common.{arith, rules, refl, inl, inr}
-use Rattle.blob_device.proofs.Results.{err_of}
 use Rattle.sealed_pages.proofs.cutting.Inside.{slot_as, cut_failed, add_failed, cleared}
 use Rattle.sealed_pages.proofs.slots.SlotLemmas.{page_next}
 use Rattle.sealed_pages.specs.SlotNames.{is_b, opened_key}
 use Rattle.sealed_pages.proofs.cut.cut_inside.Goals as goal
+use Rattle.blob_device.proofs.general.Results.{err_of}
 
 pub cut_later-requires-clause-room : goal.cut_later-requires-clause-room
 cut_later-requires-clause-room g c = omega (arith, page_next c.args.blob.now.page_size c.args.page, c.requires.room)

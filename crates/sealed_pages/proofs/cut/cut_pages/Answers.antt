@@ -1,5 +1,4 @@
 use Rattle.sealed_pages.proofs.cutting.Truncating.{no_value}
-use Rattle.blob_device.proofs.Results.{err_of}
 use Rattle.sealed_pages.proofs.cutting.Settled.{not_changed, not_settled, is_settled}
 use Rattle.std.proofs.Common.{subst, ℕ, arith, rules, refl, inl, inr}
 use Rattle.blob_device.specs.Change.{Resize}
@@ -12,6 +11,7 @@ use Rattle.sealed_pages.proofs.Fronts.{front_start, front_resize}
 use Rattle.sealed_pages.specs.View.{page_at}
 use Rattle.sealed_pages.specs.SlotNames.{opened_key}
 use Rattle.sealed_pages.proofs.cut.cut_pages.Goals as goal
+use Rattle.blob_device.proofs.general.Results.{err_of}
 
 pub sync-requires : goal.sync-requires
 sync-requires g c = no_reads_open _ _ _ (no_reads_updated (opened_key c.args.blob.now) _ _ (λ o. c.page_place-place.result) c.in_ok-resize.ensures.opened c.requires.«open»)

@@ -1,9 +1,10 @@
 use Rattle.std.proofs.Common.{◌≡◌, ◌+◌, ◌≤◌, ◌-◌, length, arith}
-use Rattle.blob_device.proofs.Results.{err_of}
 use Rattle.sealed_pages.proofs.PagesFlushed.{going_start, going_on, none_new, all_written, page_failed}
-use Rattle.sealed_pages.proofs.slots.SlotLemmas.{times_next, index_page}
+use Rattle.sealed_pages.proofs.slots.SlotLemmas.{index_page}
 use Rattle.sealed_pages.specs.SlotNames.{is_b, opened_key}
 use Rattle.sealed_pages.proofs.flush.flush_pages.Goals as goal
+use Rattle.blob_device.proofs.general.Numbers.{times_next}
+use Rattle.blob_device.proofs.general.Results.{err_of}
 
 pub pages-init : goal.pages-init
 pages-init g c = record {

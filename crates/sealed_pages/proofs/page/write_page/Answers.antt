@@ -1,5 +1,4 @@
 use Rattle.std.proofs.Common.{◌+◌, ◌-◌, ap, refl, length, take, drop, max, ℕ, arith, length-drop, rules, inl, inr}
-use Rattle.blob_device.proofs.Results.{err_of}
 use Rattle.sealed_pages.proofs.EntryLemmas.{open_some, no_reads_updated, no_reads_part, no_reads_open, open_written}
 use Rattle.sealed_pages.proofs.slots.PageCalls.{passes_as, rest_whole}
 use Rattle.sealed_pages.proofs.PageWritten.{data_failed, slot_failed, page_written}
@@ -7,6 +6,7 @@ use Rattle.sealed_pages.proofs.slots.SlotSteps.{length-slot_bytes}
 use Rattle.sealed_pages.proofs.slots.Steps.{slot_low, slot_high}
 use Rattle.sealed_pages.specs.SlotNames.{is_b, opened_key}
 use Rattle.sealed_pages.proofs.page.write_page.Goals as goal
+use Rattle.blob_device.proofs.general.Results.{err_of}
 
 pub write_at-requires-clause-fits : goal.write_at-requires-clause-fits
 write_at-requires-clause-fits g c = omega (arith, c.page_place-start.ensures, c.requires.room, c.requires.size, c.requires.new, ap length (rest_whole c.args.tip.now.from c.args.tip.now.bytes.now), length-drop c.args.tip.now.from c.args.tip.now.bytes.now)

@@ -13,12 +13,13 @@ use Rattle.sealed_pages.proofs.looking.Looking.{content_length, unchanged_start,
 use Rattle.sealed_pages.proofs.looking.PieceLemmas.{piece_covered, sealed_full, sealed_last, sealed_behind}
 use Rattle.sealed_pages.proofs.looking.ReadLemmas.{data_fits}
 use Rattle.sealed_pages.proofs.slots.SealedBytes.{page_length-le}
-use Rattle.sealed_pages.proofs.slots.SlotLemmas.{times_next, page_apart}
+use Rattle.sealed_pages.proofs.slots.SlotLemmas.{page_apart}
 use Rattle.sealed_pages.proofs.cutting.Truncating.{no_value, raised_cause, rose_since}
 use Rattle.sealed_pages.specs.SlotNames.{opened_key}
 use Rattle.sealed_pages.proofs.prefix.prefix_len.Given as given
 use Rattle.sealed_pages.proofs.prefix.prefix_len.Goals.{After-min-pages, After-load, After-covered_len-len}
 use Rattle.sealed_pages.proofs.prefix.prefix_len.Goals as goal
+use Rattle.blob_device.proofs.general.Numbers.{times_next}
 
 pub load-requires-clause-place : goal.load-requires-clause-place
 load-requires-clause-place g c =

@@ -13,7 +13,6 @@ use borrow.Rule.Slice.PartMut.{put_mid}
 use Rattle.std.specs.Map.{keys_of}
 use Rattle.sealed_pages.specs.Cached.{held_in, uncached, AreCachedOf}
 use Rattle.sealed_pages.proofs.memory.CacheLemmas.{uncached_more, uncached_next}
-use Rattle.blob_device.proofs.Results.{err_of}
 use Rattle.sealed_pages.specs.Reads.{IsWanted, IsShort, needed}
 use Rattle.sealed_pages.specs.SealedPrefix.{place}
 use Rattle.sealed_pages.specs.Slots.{page_length}
@@ -26,6 +25,7 @@ use Rattle.sealed_pages.specs.SlotNames.{opened_key}
 use Rattle.sealed_pages.proofs.range.read_each.Given as given
 use Rattle.sealed_pages.proofs.range.read_each.Goals.{After-min-n, After-read_part}
 use Rattle.sealed_pages.proofs.range.read_each.Goals as goal
+use Rattle.blob_device.proofs.general.Results.{err_of}
 
 pub overflow_add-page : goal.overflow_add-page
 overflow_add-page g c =

@@ -1,9 +1,9 @@
 use Rattle.std.proofs.Common.{rules, arith}
-use Rattle.blob_device.proofs.Results.{err_of}
 use Rattle.sealed_pages.proofs.memory.MemoryLemmas.{none_whole}
 use Rattle.sealed_pages.proofs.OpenedReads.{last_unlearned, last_refused, last_failed, last_read}
 use Rattle.sealed_pages.specs.SlotNames.{opened_key}
 use Rattle.sealed_pages.proofs.range.read_last.Goals as goal
+use Rattle.blob_device.proofs.general.Results.{err_of}
 
 pub read_pages-requires-clause-whole : goal.read_pages-requires-clause-whole
 read_pages-requires-clause-whole g c = none_whole c.args.blob.now.page_size _ c.new-none.ensures.empty

@@ -1,11 +1,11 @@
 use Rattle.std.proofs.Common.{ap, arith}
-use Rattle.blob_device.proofs.Results.{err_of}
 use Rattle.sealed_pages.specs.SlotNames.{is_b, opened_key}
 use Rattle.sealed_pages.specs.View.{page_at}
 use Rattle.sealed_pages.proofs.slots.SlotLemmas.{index_page}
 use Rattle.sealed_pages.proofs.adopted.Adopting.{pages_place}
 use Rattle.sealed_pages.proofs.Removing.{behind_as, torn_as, behind_failed, torn_failed, settle_failed, removed}
 use Rattle.sealed_pages.proofs.repair.repair.Goals as goal
+use Rattle.blob_device.proofs.general.Results.{err_of}
 
 pub pages_below-pages-requires : goal.pages_below-pages-requires
 pages_below-pages-requires g c some = omega (arith, index_page c.args.blob.now.page_size c.args.start.now.first, c.requires.room c.args.start.now.first (omega (arith, some)))

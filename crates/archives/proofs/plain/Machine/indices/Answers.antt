@@ -1,11 +1,11 @@
 use Rattle.std.proofs.Common.{List, [], ◌∷◌, ◌++◌, take, ◌∙◌, ap, sym, subst}
 use Rattle.std.proofs.lemmas.List.{take_more, take_all}
-use Rattle.blob_device.proofs.Results.{err_of}
 use Rattle.ordinal_store.specs.Plain.{listed}
 use Rattle.archives.specs.declared.error.Error.TheVariants.{Mem}
 use Rattle.archives.specs.declared.plain.Item.{Item}
 use Rattle.archives.proofs.machine.Indices.{AreOf, has_none, of_more, of_none, of_state}
 use Rattle.archives.proofs.plain.Machine.indices.Goals as goal
+use Rattle.blob_device.proofs.general.Results.{err_of}
 
 pub loop-item-init : goal.loop-item-init
 loop-item-init g c = of_none g.row.K.Denot g.row.V.Denot c.new-set.result.numbers.items c.new-set.ensures

@@ -1,11 +1,11 @@
 use Rattle.std.proofs.Common.{◌∙◌, ap, refl, false}
 use Rattle.std.proofs.lemmas.Bool.{le-ltb, lt-ltb}
-use Rattle.blob_device.proofs.Results.{err_of}
 use Rattle.archives.specs.Machine.{after_multi}
 use Rattle.archives.specs.plain.Machine.{state_of, state_with}
 use Rattle.archives.specs.declared.error.Error.TheVariants.{Mem}
 use Rattle.archives.proofs.machine.Changes.{multi_low, multi_more, turned_not}
 use Rattle.archives.proofs.plain.Machine.multi.Goals as goal
+use Rattle.blob_device.proofs.general.Results.{err_of}
 
 pub returns-then-index-self : goal.returns-then-index-self
 returns-then-index-self g c =

@@ -1,7 +1,7 @@
-use Rattle.blob_device.proofs.Results.{err_of}
 use Rattle.archives.specs.Machine.{after_multi, after_sync}
 use Rattle.archives.proofs.machine.Changes.{turned_not, turned_twice}
 use Rattle.archives.proofs.plain.Machine.multi_and_sync.Goals as goal
+use Rattle.blob_device.proofs.general.Results.{err_of}
 
 pub returns-in_err-multi : goal.returns-in_err-multi
 returns-in_err-multi g c =

@@ -1,10 +1,10 @@
 use Rattle.std.proofs.Common.{◌≡◌, Err, refl, subst}
-use Rattle.blob_device.proofs.Results.{err_of}
 use Rattle.ordinal_store.specs.Numbers.{Set, IsNextRun, IsRunEnd}
 use Rattle.ordinal_store.specs.Plain.{listed}
 use Rattle.archives.specs.Commands.{Gap}
 use Rattle.archives.proofs.machine.Indices.{told_none, told_of}
 use Rattle.archives.proofs.plain.Machine.next_gap.Goals as goal
+use Rattle.blob_device.proofs.general.Results.{err_of}
 
 pub returns-in_err-indices : goal.returns-in_err-indices
 returns-in_err-indices g c =

@@ -1,7 +1,7 @@
-use Rattle.blob_device.proofs.Results.{err_of}
 use Rattle.archives.specs.Machine.{after_put, after_sync}
 use Rattle.archives.proofs.machine.Changes.{turned_not, turned_twice}
 use Rattle.archives.proofs.plain.Machine.put_and_sync.Goals as goal
+use Rattle.blob_device.proofs.general.Results.{err_of}
 
 pub returns-in_err-put : goal.returns-in_err-put
 returns-in_err-put g c =

@@ -1,11 +1,11 @@
 use Rattle.std.proofs.Common.{◌≡◌, Err, refl, sym, subst}
-use Rattle.blob_device.proofs.Results.{err_of}
 use Rattle.ordinal_store.specs.Numbers.{Set, AreRunsFrom}
 use Rattle.ordinal_store.specs.Plain.{listed}
 use Rattle.archives.specs.Commands.{RangesFrom}
 use Rattle.archives.specs.declared.error.Error.TheVariants.{Mem}
 use Rattle.archives.proofs.machine.Indices.{told_none, told_of}
 use Rattle.archives.proofs.plain.Machine.ranges_from.Goals as goal
+use Rattle.blob_device.proofs.general.Results.{err_of}
 
 pub returns-in_err-indices : goal.returns-in_err-indices
 returns-in_err-indices g c =

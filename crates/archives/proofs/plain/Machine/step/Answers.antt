@@ -1,11 +1,11 @@
 use Rattle.std.proofs.Common.{◌≡◌, Err, Ok, refl, subst}
-use Rattle.blob_device.proofs.Results.{err_of}
 use Rattle.archives.specs.Commands.{Get, GetKey}
 use Rattle.archives.specs.Machine.{after_destroy, after_multi, after_prune, after_put, after_sync}
 use Rattle.archives.specs.declared.commands.Reply.TheVariants as answer
 use Rattle.archives.proofs.machine.Indices.{reopened_carries, told_all, told_carries, told_none, told_value, turned_carries, turned_either}
 use Rattle.archives.proofs.machine.Steps.{get_key_steps, has_key_steps}
 use Rattle.archives.proofs.plain.Machine.step.Goals as goal
+use Rattle.blob_device.proofs.general.Results.{err_of}
 
 pub returns-in-All : goal.returns-in-All
 returns-in-All g c = told_carries g.K.Key.key_bytes c.args.self.now c.if-not-self.false c.args.command.now _ c.in-All.is c.all.result c.all.ensures

@@ -6,7 +6,6 @@ use Rattle.std.proofs.lemmas.Bool.{cases_lt}
 use Rattle.blob_device.specs.Disk.{Key}
 use Rattle.blob_device.specs.Timeline.{Always, disk}
 use Rattle.blob_device.proofs.Moments.{always_now}
-use Rattle.blob_device.proofs.Results.{err_of}
 use Rattle.section_manager.specs.Sections.{section_key}
 use Rattle.segments.specs.FixedLists as fixed
 use Rattle.paired.specs.Tails.{AreTailsAfter}
@@ -46,6 +45,7 @@ use Rattle.archives.proofs.put.Stands.{IsFree, at_rest, full_or_room, put_moment
 use Rattle.archives.proofs.prunable.Archive.append.Given as given
 use Rattle.archives.proofs.prunable.Archive.append.Goals as goal
 use Rattle.archives.proofs.prunable.Archive.append.Goals.{After-append}
+use Rattle.blob_device.proofs.general.Results.{err_of}
 
 -- a value that was added has a frame whose bytes a u32 counts
 short : (g : given.Over) (c : goal.After-result-1 g) → length (frame g.S.Seal.seal_of (g.V.Codec.spelling c.args.value.now)) ≤ 2 ^ 32 - 1

@@ -4,7 +4,6 @@ use Rattle.paired.specs.Kept.{kept}
 use Rattle.paired.specs.Opening.{as_read}
 use Rattle.paired.specs.Replaying.{GivesRecord, HasFailed, marker, records_given}
 use Rattle.archives.specs.Rows.{Row, row_in, rows_of}
-use Rattle.blob_device.proofs.Results.{err_of}
 use Rattle.archives.proofs.DrainsLemmas.{drained, entry_is, not_entered, not_walked}
 use Rattle.blob_device.specs.Timeline.{disk}
 use Rattle.value_codec.specs.Spelling.{size_refusal}
@@ -27,6 +26,7 @@ use Rattle.record_tables.specs.Tables as tables
 use Rattle.archives.proofs.prunable.Archive.entered.Given as given
 use Rattle.archives.proofs.prunable.Archive.entered.Goals as goal
 use Rattle.archives.proofs.prunable.Archive.entered.Goals.{After-next, In_ok-section}
+use Rattle.blob_device.proofs.general.Results.{err_of}
 
 -- ---- what the call of the replay says, and what follows of it
 

@@ -1,7 +1,7 @@
-use Rattle.blob_device.proofs.Results.{err_of}
 use Rattle.archives.proofs.EntryLemmas.{as_entry_failed, as_unread, key_there}
 use Rattle.archives.proofs.ValueLemmas.{value_reads}
 use Rattle.archives.proofs.prunable.Archive.entry_at.Goals as goal
+use Rattle.blob_device.proofs.general.Results.{err_of}
 
 pub value_of-requires-clause-kept : goal.value_of-requires-clause-kept
 value_of-requires-clause-kept g c = (c.args.position, c.requires.kept)

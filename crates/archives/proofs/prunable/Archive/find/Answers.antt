@@ -1,5 +1,4 @@
 use Rattle.std.proofs.Common.{sym, ◌∙◌, ap, subst, refl}
-use Rattle.blob_device.proofs.Results.{err_of}
 use Rattle.record_tables.specs.Tables.{AreCandidates}
 use Rattle.section_manager.specs.contracts.sealed.PageBlobSectionBuffer.TheImpl as page_blob
 use Rattle.archives.specs.Shown.{means}
@@ -9,6 +8,7 @@ use Rattle.archives.proofs.TableLemmas.{other_key, same_key}
 use Rattle.archives.proofs.prunable.Archive.find.Given as given
 use Rattle.archives.proofs.prunable.Archive.find.Goals as goal
 use Rattle.archives.proofs.prunable.Archive.find.Goals.{After-candidates-handle-items}
+use Rattle.blob_device.proofs.general.Results.{err_of}
 
 -- ---- the handles of the key's word
 

@@ -1,7 +1,6 @@
 use Rattle.std.proofs.Common.{ap, refl}
 use Rattle.std.specs.Prelude.{⊤}
 use Rattle.blob_device.specs.Timeline.{disk}
-use Rattle.blob_device.proofs.Results.{err_of}
 use Rattle.sealed_pages.proofs.looking.Looking.{unchanged_now}
 use Rattle.record_tables.specs.Tables as tables
 use Rattle.archives.specs.Archives.{state_of}
@@ -14,6 +13,7 @@ use Rattle.archives.proofs.read.Records.{to_map, weaker_at}
 use Rattle.archives.proofs.ReadsLemmas.{get_done, get_failed, get_nothing}
 use Rattle.archives.proofs.TableLemmas.{first_of, none_of}
 use Rattle.archives.proofs.prunable.Archive.get_at.Goals as goal
+use Rattle.blob_device.proofs.general.Results.{err_of}
 
 pub position_of-requires : goal.position_of-requires
 position_of-requires g c = record { order = c.requires.over.tied.order; index = section_low _ c.args.index _ c.section_of-section.ensures }

@@ -1,7 +1,7 @@
 use Rattle.std.proofs.Common.{rules, ◌<◌, ◌^◌}
-use Rattle.blob_device.proofs.Results.{err_of}
 use Rattle.archives.proofs.KeyLemmas.{get_absent, get_by_key, get_unfound, get_unread}
 use Rattle.archives.proofs.prunable.Archive.get_by.Goals as goal
+use Rattle.blob_device.proofs.general.Results.{err_of}
 
 pub returns-in_err-section : goal.returns-in_err-section
 returns-in_err-section g c =

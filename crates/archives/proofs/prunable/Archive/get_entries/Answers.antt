@@ -1,5 +1,4 @@
 use Rattle.std.proofs.Common.{sym, ◌∙◌}
-use Rattle.blob_device.proofs.Results.{err_of}
 use Rattle.archives.specs.Shown.{shown}
 use Rattle.archives.specs.declared.error.Error.TheVariants.{Mem}
 use Rattle.archives.proofs.positions.PositionLemmas.{no_position, row_at, some_position}
@@ -8,6 +7,7 @@ use Rattle.archives.proofs.SeveralLemmas.{entries_done, entry_more, entry_short,
 use Rattle.archives.proofs.put.Rows.{section_low}
 use Rattle.archives.proofs.TableLemmas.{positions_shown, short_shown}
 use Rattle.archives.proofs.prunable.Archive.get_entries.Goals as goal
+use Rattle.blob_device.proofs.general.Results.{err_of}
 
 -- ---- no position
 

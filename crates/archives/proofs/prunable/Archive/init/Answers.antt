@@ -4,7 +4,6 @@ use Rattle.std.specs.Prelude.{⊤}
 use Rattle.std.specs.List.{AllByRecursion}
 use Rattle.blob_device.specs.Timeline.{disk, Always}
 use Rattle.blob_device.specs.declared.runtime.RError.TheVariants.{InvalidChecksum, OffsetOverflow}
-use Rattle.blob_device.proofs.Results.{err_of}
 use Rattle.meta_store.specs.Opening.{PairOn}
 use Rattle.meta_store.specs.declared.error.Error.TheVariants as store
 use Rattle.section_manager.specs.Refusing.{IsForeign}
@@ -63,6 +62,7 @@ use Rattle.archives.proofs.OpensLemmas.{not_opened, opening_done, opening_refuse
 use Rattle.archives.proofs.prunable.Archive.init.Given as given
 use Rattle.archives.proofs.prunable.Archive.init.Goals as goal
 use Rattle.archives.proofs.prunable.Archive.init.Goals.{After-init_with_metadata, In_ok-replay}
+use Rattle.blob_device.proofs.general.Results.{err_of}
 
 -- what is false is not true
 not_true : (b : Bool) → b ≡ false → IsTrue b → ⊥

@@ -4,7 +4,6 @@ use Rattle.std.specs.Ordering.{nat_cmp}
 use Rattle.std.proofs.lemmas.Bool.{cases_lt}
 use Rattle.blob_device.specs.Timeline.{disk}
 use Rattle.blob_device.proofs.Moments.{always_now}
-use Rattle.blob_device.proofs.Results.{err_of}
 use Rattle.value_codec.specs.declared.codec.Error as codec_error
 use Rattle.paired.specs.PairShown as pair
 use Rattle.paired.proofs.pair.Synced.{layout_as}
@@ -24,6 +23,7 @@ use Rattle.archives.proofs.put.Sync.{same_filing}
 use Rattle.archives.proofs.PuttingLemmas.{section_start}
 use Rattle.archives.proofs.sync.Lemmas.{stands_now, true_or_false}
 use Rattle.archives.proofs.prunable.Archive.prune.Goals as goal
+use Rattle.blob_device.proofs.general.Results.{err_of}
 
 pub remove_below-requires : goal.remove_below-requires
 remove_below-requires g c = c.requires.over.tied.order

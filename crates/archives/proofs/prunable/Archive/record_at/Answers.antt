@@ -1,6 +1,5 @@
 use Rattle.std.proofs.Common.{inl, inr, ap, Err}
 use Rattle.blob_device.specs.Timeline.{disk}
-use Rattle.blob_device.proofs.Results.{err_of}
 use Rattle.sealed_pages.proofs.looking.Looking.{unchanged_now}
 use Rattle.section_manager.specs.Refusing as segments
 use Rattle.section_manager.specs.Sections.{section_key}
@@ -16,6 +15,7 @@ use Rattle.archives.proofs.read.Records.{key_behind, record_at}
 use Rattle.archives.proofs.read.Values.{archive_read}
 use Rattle.archives.proofs.prunable.Archive.record_at.Given as given
 use Rattle.archives.proofs.prunable.Archive.record_at.Goals as goal
+use Rattle.blob_device.proofs.general.Results.{err_of}
 
 -- memory or the device failed
 record_failed : (g : given.Over) (c : goal.After-from_residual g) → g.D.Device.Tells

@@ -1,6 +1,6 @@
-use Rattle.blob_device.proofs.Results.{err_of}
 use Rattle.archives.proofs.EntryLemmas.{value_unread_as}
 use Rattle.archives.proofs.prunable.Archive.value_at.Goals as goal
+use Rattle.blob_device.proofs.general.Results.{err_of}
 
 pub returns-in_err-value : goal.returns-in_err-value
 returns-in_err-value g c =

@@ -1,6 +1,5 @@
 use Rattle.std.proofs.Common.{◌≡◌, refl, ℕ, slice_get, IsSomeAnd, Result, Err}
 use Rattle.blob_device.specs.Timeline.{disk}
-use Rattle.blob_device.proofs.Results.{err_of}
 use Rattle.sealed_pages.proofs.looking.Looking.{unchanged_now}
 use Rattle.section_manager.specs.Sections.{section_key}
 use Rattle.paired.specs.Pair.{list_of}
@@ -19,6 +18,7 @@ use Rattle.archives.proofs.ValueLemmas.{value_of_unread}
 use Rattle.archives.proofs.prunable.Archive.value_of.Given as given
 use Rattle.archives.proofs.prunable.Archive.value_of.Goals as goal
 use Rattle.archives.proofs.prunable.Archive.value_of.Goals.{After-get_value}
+use Rattle.blob_device.proofs.general.Results.{err_of}
 
 -- the record names the place, where it stands on the disk
 names : (g : given.Over) (c : After-get_value g) (at : ℕ) → IsInRange c.args.record.now

@@ -2,12 +2,12 @@ use Rattle.std.proofs.Common.{refl, Err, arith}
 use Rattle.std.specs.Prelude.{⊤}
 use Rattle.blob_device.specs.Timeline.{disk}
 use Rattle.blob_device.proofs.Moments.{always_now}
-use Rattle.blob_device.proofs.Results.{err_of}
 use Rattle.archives.specs.Raised.{raised}
 use Rattle.archives.specs.Shown.{shown}
 use Rattle.archives.proofs.DestroyLemmas.{destroy_done, destroy_goes, destroy_pair_failed, none_left, removal_as}
 use Rattle.archives.proofs.PrunesLemmas.{none_below}
 use Rattle.archives.proofs.prunable.ArchiveArchive.destroy.Goals as goal
+use Rattle.blob_device.proofs.general.Results.{err_of}
 
 -- the pair's removal failed
 pub returns-in_err-destroy : goal.returns-in_err-destroy

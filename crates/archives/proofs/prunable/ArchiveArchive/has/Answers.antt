@@ -1,10 +1,10 @@
 -- By index the set tells; by key a search does.
 use Rattle.std.proofs.Common.{ap}
-use Rattle.blob_device.proofs.Results.{err_of}
 use Rattle.archives.specs.Finding.{wanted_of}
 use Rattle.archives.proofs.KeyLemmas.{has_by_key, has_unread}
 use Rattle.archives.proofs.ReadsLemmas.{has_as, has_by_index}
 use Rattle.archives.proofs.prunable.ArchiveArchive.has.Goals as goal
+use Rattle.blob_device.proofs.general.Results.{err_of}
 
 pub returns-in-Index : goal.returns-in-Index
 returns-in-Index g c = has_as _ g.D.Device c.args.self.now _ _ (ap (wanted_of g.K.Key.key_bytes) c.in-Index.is) c.args.dev.now c.args.dev.now _

@@ -1,8 +1,8 @@
 use Rattle.std.proofs.Common.{refl}
-use Rattle.blob_device.proofs.Results.{err_of}
 use Rattle.archives.specs.Putting.{Once}
 use Rattle.archives.proofs.put.SyncsLemmas.{put_sync_as, put_sync_refused, put_then_sync}
 use Rattle.archives.proofs.prunable.ArchiveArchive.put_sync.Goals as goal
+use Rattle.blob_device.proofs.general.Results.{err_of}
 
 pub returns-in_err-this : goal.returns-in_err-this
 returns-in_err-this g c =

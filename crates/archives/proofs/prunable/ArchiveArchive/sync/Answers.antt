@@ -3,7 +3,6 @@ use Rattle.std.specs.BTreeSet as set
 use Rattle.std.specs.Ordering.{nat_cmp}
 use Rattle.std.proofs.lemmas.Bool.{cases_lt}
 use Rattle.blob_device.specs.Timeline.{disk}
-use Rattle.blob_device.proofs.Results.{err_of}
 use Rattle.value_codec.specs.declared.codec.Error as codec_error
 use Rattle.paired.specs.PairShown as pair
 use Rattle.paired.specs.Kept.{content_at}
@@ -23,6 +22,7 @@ use Rattle.archives.proofs.sync.Stored.{no_record_tail, no_value_tail, values_st
 use Rattle.archives.proofs.SyncsLemmas.{sync_no_memory, sync_pair_done, sync_pair_failed}
 use Rattle.archives.proofs.SyncsLemmas as syncs
 use Rattle.archives.proofs.prunable.ArchiveArchive.sync.Goals as goal
+use Rattle.blob_device.proofs.general.Results.{err_of}
 
 pub returns-in_err-sections : goal.returns-in_err-sections
 returns-in_err-sections g c =

@@ -2,11 +2,11 @@ use Rattle.std.proofs.Common.{rules, ◌≡◌, ◌^◌, sym, ◌∙◌, ap}
 use Rattle.record_tables.specs.Tables as tables
 use Rattle.archives.specs.Rows.{Row, row_of}
 use Rattle.archives.specs.declared.error.Error.TheVariants.{Mem}
-use Rattle.blob_device.proofs.Results.{err_of}
 use Rattle.archives.proofs.EnterLemmas.{room_here, row_entered, row_unroomed, section_here}
 use Rattle.archives.proofs.put.Rows.{section_low}
 use Rattle.archives.proofs.TableLemmas.{room_wider}
 use Rattle.archives.proofs.prunable.opening.enter.Goals as goal
+use Rattle.blob_device.proofs.general.Results.{err_of}
 
 pub has_room-requires : goal.has_room-requires
 has_room-requires g c = c.requires.tied.order

@@ -1,8 +1,8 @@
 use Rattle.std.proofs.Common.{◌∙◌, ◌+◌, length}
 use Rattle.blob_device.specs.FileMeaning.{file_opened}
 use Rattle.blob_device.proofs.OpenedLemmas.{unchanged_grown}
-use Rattle.blob_device.proofs.Results.{err_like}
 use Rattle.blob_device.proofs.file_device.FileDeviceDevice.write_at.Goals as goal
+use Rattle.blob_device.proofs.general.Results.{err_like}
 
 pub returns-clause-opened_err : goal.returns-clause-opened_err
 returns-clause-opened_err g c =

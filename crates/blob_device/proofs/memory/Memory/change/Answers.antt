@@ -6,8 +6,8 @@ use Rattle.blob_device.specs.Calls.{change_of, FindsBlob}
 use Rattle.blob_device.specs.Laws.{disk_now}
 use Rattle.blob_device.specs.Tracks.{tracks_of, Stepped}
 use Rattle.blob_device.proofs.Logged.{made_ok, made_err, made_opened, made_sound, made_leaves, unmade, unmade_leaves, mem_leaves}
-use Rattle.blob_device.proofs.Results.{err_of}
 use Rattle.blob_device.proofs.memory.Memory.change.Goals as goal
+use Rattle.blob_device.proofs.general.Results.{err_of}
 
 pub returns-then-turn-clause-counts : goal.returns-then-turn-clause-counts
 returns-then-turn-clause-counts c = record { later = c.begin-turn.ensures.later; cause = λ e. absurd (cc e); calls = c.begin-turn.ensures.next }

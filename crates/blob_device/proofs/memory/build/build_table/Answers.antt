@@ -7,8 +7,9 @@ use Rattle.std.specs.List.{AllByRecursion}
 use Rattle.std.specs.List.Sorted.{IsStrictlySortedBy}
 use Rattle.blob_device.specs.Tables.{at_key, by_bytes}
 use Rattle.blob_device.specs.Building.{table_built}
-use Rattle.blob_device.proofs.Building.{table_more, table_found, all_push, all_shown}
+use Rattle.blob_device.proofs.Building.{table_more, table_found, all_shown}
 use Rattle.blob_device.proofs.memory.build.build_table.Goals as goal
+use Rattle.blob_device.proofs.general.Lists.{all_push}
 
 pub loop-partition-preserved : goal.loop-partition-preserved
 loop-partition-preserved g c =

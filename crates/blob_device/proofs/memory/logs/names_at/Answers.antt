@@ -4,8 +4,8 @@ use Rattle.blob_device.specs.Tables.{at_name}
 use Rattle.blob_device.specs.Tracks.{tracks_of, track_at}
 use Rattle.blob_device.specs.NameList.{names_of}
 use Rattle.blob_device.proofs.NamesLemmas.{names_found, no_names_found}
-use Rattle.blob_device.proofs.Results.{if_ok_with}
 use Rattle.blob_device.proofs.memory.logs.names_at.Goals as goal
+use Rattle.blob_device.proofs.general.Results.{if_ok_with}
 
 pub returns-in-Some : goal.returns-in-Some
 returns-in-Some c =

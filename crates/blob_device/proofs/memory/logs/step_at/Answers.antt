@@ -5,8 +5,8 @@ use Rattle.blob_device.specs.Tables.{at_name, at_key}
 use Rattle.blob_device.specs.Calls.{pushed, Track}
 use Rattle.blob_device.specs.Tracks.{track_at, tracks_of}
 use Rattle.blob_device.proofs.Maps.{table_put, table_same, here_was}
-use Rattle.blob_device.proofs.Results.{on_ok_two, on_err, err_with}
 use Rattle.blob_device.proofs.memory.logs.step_at.Goals as goal
+use Rattle.blob_device.proofs.general.Results.{err_with, on_err, on_ok_two}
 
 pub returns-in_err-make_partition-clause-err : goal.returns-in_err-make_partition-clause-err
 returns-in_err-make_partition-clause-err c = err_with c.from_residual.result (ap (λ (f : Key → Option BlobLog). λ k. track_at (f k)) c.make_partition.ensures.same)

@@ -2,8 +2,8 @@ use Rattle.std.proofs.Common.{◌≡◌, ◌≢◌, ◌∙◌, ⊎_elim, Some, L
 use Rattle.blob_device.specs.Calls.{pushed, Track}
 use Rattle.blob_device.specs.Tracks.{track_at, tracks_in}
 use Rattle.blob_device.proofs.Maps.{map_here, map_other, same_or_differ}
-use Rattle.blob_device.proofs.Results.{on_ok, on_err, ok_with, err_with}
 use Rattle.blob_device.proofs.memory.logs.step_in.Goals as goal
+use Rattle.blob_device.proofs.general.Results.{err_with, ok_with, on_err, on_ok}
 
 pub returns-in_err-make_name-clause-err : goal.returns-in_err-make_name-clause-err
 returns-in_err-make_name-clause-err c = err_with c.from_residual.result (λ q. ap (λ (f : List ℕ → Track). f q) c.make_name.ensures.same)

@@ -2,8 +2,8 @@ use Rattle.std.proofs.Common.{◌≡◌, Some, rules, sym, ◌∙◌, ap}
 use Rattle.blob_device.specs.Disk.{put}
 use Rattle.blob_device.specs.Tables.{at_name}
 use Rattle.blob_device.proofs.Maps.{table_put, table_same}
-use Rattle.blob_device.proofs.Results.{on_err, on_ok_two}
 use Rattle.blob_device.proofs.table.Table.insert.Goals as goal
+use Rattle.blob_device.proofs.general.Results.{on_err, on_ok_two}
 
 pub returns-clause-ok : goal.returns-clause-ok
 returns-clause-ok g c =

@@ -1,10 +1,10 @@
 use Rattle.std.proofs.Common.{◌∙◌, ap}
-use Rattle.blob_device.proofs.Results.{err_of}
 use Rattle.meta_store.specs.Blobs.{name_of}
 use Rattle.meta_store.specs.Format.{format_of}
 use Rattle.meta_store.specs.Store.{seen}
 use Rattle.meta_store.proofs.DestroysLemmas.{first_failed, removed_both, second_failed}
 use Rattle.meta_store.proofs.metadata.Metadata.destroy.Goals as goal
+use Rattle.blob_device.proofs.general.Results.{err_of}
 
 pub returns-in_err-remove : goal.returns-in_err-remove
 returns-in_err-remove g c =

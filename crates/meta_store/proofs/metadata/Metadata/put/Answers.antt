@@ -1,9 +1,9 @@
 use Rattle.std.proofs.Common.{ap}
-use Rattle.blob_device.proofs.Results.{err_of}
 use Rattle.meta_store.specs.Format.{format_of}
 use Rattle.meta_store.specs.Store.{seen, shown}
 use Rattle.meta_store.proofs.StagingLemmas.{has_put, put_failed}
 use Rattle.meta_store.proofs.metadata.Metadata.put.Goals as goal
+use Rattle.blob_device.proofs.general.Results.{err_of}
 
 pub returns-in_err-insert : goal.returns-in_err-insert
 returns-in_err-insert g c =

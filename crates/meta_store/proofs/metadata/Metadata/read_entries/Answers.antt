@@ -6,9 +6,10 @@ use Rattle.std.proofs.lemmas.List.{take_all, take_rest, length_push}
 use Rattle.meta_store.specs.declared.metadata.reading.Entry.{Entry}
 use Rattle.meta_store.specs.Format.{Format, format_of}
 use Rattle.meta_store.specs.Copies.{IsStorable, IsEntries, entry_bytes, entries_bytes}
-use Rattle.meta_store.proofs.Ascending.{all_one_more, keys_append}
+use Rattle.meta_store.proofs.Ascending.{keys_append}
 use Rattle.meta_store.proofs.EntryLists.{GoesOn, NextEntry, goes_from_start, next_entry, goes_past, front_more, all_read, none_behind}
 use Rattle.meta_store.proofs.metadata.Metadata.read_entries.Goals as goal
+use Rattle.blob_device.proofs.general.Lists.{all_push}
 
 pub entries-init : goal.entries-init
 unfolding IsStrictlySortedBy
@@ -81,7 +82,7 @@ entries-preserved g c =
           (front_more f bytes items at e.len entry c.entries.invariant.front (ap (take e.len) (sym (take_rest bytes at)) ∙ read));
       ascending = subst (λ (l : List (g.row.K.Denot × g.row.V.Denot)). IsStrictlySortedBy g.K.Ord.cmp (keys_of l)) (sym pushed)
           (subst (IsStrictlySortedBy g.K.Ord.cmp) (sym (keys_append items (entry ∷ []))) sorted);
-      storable = subst (AllByRecursion (λ e. IsStorable f e.1)) (sym pushed) (all_one_more (λ e. IsStorable f e.1) items entry c.entries.invariant.storable storable);
+      storable = subst (AllByRecursion (λ e. IsStorable f e.1)) (sym pushed) (all_push (λ e. IsStorable f e.1) items entry c.entries.invariant.storable storable);
       goes_on = λ entries all.
           let next = read_next f c.args.count bytes items entries at c.in_ok-entry.field-0 c.in_ok-entry.ensures.only all (c.entries.invariant.goes_on entries all)
           (omega (arith, c.entries.invariant.number, c.entries-test.true)) in

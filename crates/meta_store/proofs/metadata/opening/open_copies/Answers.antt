@@ -1,6 +1,6 @@
-use Rattle.blob_device.proofs.Results.{err_of}
 use Rattle.meta_store.proofs.InitsLemmas.{left_failed, opens_both, right_failed}
 use Rattle.meta_store.proofs.metadata.opening.open_copies.Goals as goal
+use Rattle.blob_device.proofs.general.Results.{err_of}
 
 pub returns-in_err-left : goal.returns-in_err-left
 returns-in_err-left g c =

@@ -1,6 +1,5 @@
 use Rattle.std.proofs.Common.{inl, inr, ℕ, ◌+◌, List, Option, sym, ◌∙◌, ap, subst}
 use Rattle.std.specs.Prelude.{◌≤◌, IsSomeAnd, MatchOption}
-use Rattle.blob_device.proofs.Results.{err_of}
 use Rattle.blob_device.specs.Disk.{Key}
 use Rattle.blob_device.specs.Timeline.{disk}
 use Rattle.sealed_pages.specs.Entries.{ReadsAtMost}
@@ -13,6 +12,7 @@ use Rattle.ordinal_store.proofs.GettingLemmas.{got_failed, got_none, got_value, 
 use Rattle.ordinal_store.proofs.store.Ordinal.get.Goals as goal
 use Rattle.ordinal_store.proofs.store.Ordinal.get.Given.{Over}
 use Rattle.ordinal_store.specs.declared.store.Ordinal.{Ordinal}
+use Rattle.blob_device.proofs.general.Results.{err_of}
 
 -- what a store shows
 abbrev show : (g : Over) → Ordinal g.row.A.Denot g.row.S.Denot → Store

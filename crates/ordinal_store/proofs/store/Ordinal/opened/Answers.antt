@@ -14,7 +14,6 @@ use Rattle.std.proofs.lemmas.Bool.{cases_lt}
 use Rattle.ordinal_store.specs.declared.ordinal.Error.TheVariants.{InvalidBlobName}
 use Rattle.ordinal_store.proofs.OpenLemmas.{early_failed, early_full, early_named, late_failed, restored_all, there_of, way_emptied}
 use Rattle.blob_device.proofs.Moments.{always_now}
-use Rattle.blob_device.proofs.Results.{err_of}
 use Rattle.blob_device.specs.Disk.{AreNamesIn, Disk}
 use Rattle.std.specs.List.{Contains}
 use Rattle.ordinal_store.proofs.TrailLemmas.{as_err, failed_as}
@@ -23,6 +22,7 @@ use Rattle.ordinal_store.proofs.store.Ordinal.opened.Given.{Over}
 use Rattle.ordinal_store.specs.declared.ordinal.Config.{Config}
 use Rattle.ordinal_store.specs.declared.store.Ordinal.{Ordinal}
 use Rattle.ordinal_store.specs.Stores.{Store}
+use Rattle.blob_device.proofs.general.Results.{err_of}
 
 -- what a store shows
 abbrev show : (g : Over) → Ordinal g.row.A.Denot g.row.S.Denot → Store

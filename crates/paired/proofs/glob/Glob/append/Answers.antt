@@ -3,7 +3,6 @@ use Rattle.std.specs.Option.{is_some}
 use Rattle.std.specs.Result.{is_ok}
 use Rattle.blob_device.specs.declared.runtime.RError.TheVariants.{Fault}
 use Rattle.blob_device.specs.declared.runtime.RError.TheVariants.{Mem as RMem}
-use Rattle.blob_device.proofs.Results.{err_of}
 use Rattle.section_manager.specs.declared.journal.Error.TheVariants.{Full}
 use Rattle.blob_device.proofs.Moments.{always_now}
 use Rattle.blob_device.specs.Disk.{Key, Outside}
@@ -22,7 +21,6 @@ use Rattle.section_manager.specs.Setting.{Setting}
 use Rattle.section_manager.proofs.sections.KeyLemmas.{keys_differ}
 use Rattle.section_manager.proofs.sections.LentLemmas.{lent_back}
 use Rattle.section_manager.proofs.sections.OverLemmas.{same_key}
-use Rattle.section_manager.proofs.WalkLemmas.{some_same}
 use Rattle.paired.proofs.GlobLemmas.{buffers, Serves, serves_of, glob_one, same_bytes, held_bytes, no_bytes, section_counted}
 use Rattle.section_manager.proofs.sections.EntryLemmas.{starts_none}
 use Rattle.section_manager.proofs.sections.TruncateLemmas.{unread_then}
@@ -32,12 +30,14 @@ use Rattle.paired.proofs.AppendLemmas.{stays_below, full_held, end_size, some_si
 use Rattle.paired.proofs.FrameLemmas.{length-frame}
 use Rattle.paired.proofs.FrameLemmas.{stands as frame_stands}
 use Rattle.std.proofs.lemmas.Bool.{cases_lt}
-use Rattle.paired.proofs.CallLemmas.{some_held, held_some}
+use Rattle.paired.proofs.CallLemmas.{held_some}
 use Rattle.sealed_pages.specs.Tails.{LeavesPending}
 use Rattle.paired.proofs.TailLemmas.{appended_tail}
 use Rattle.paired.proofs.glob.Glob.append.Given as given
 use Rattle.paired.proofs.glob.Glob.append.Goals as goal
 use Rattle.paired.proofs.glob.Glob.append.Goals.{In_ok-put}
+use Rattle.blob_device.proofs.general.Options.{some_same, some_there}
+use Rattle.blob_device.proofs.general.Results.{err_of}
 
 pub returns-clause-tail : goal.returns-clause-tail
 returns-clause-tail g c =
@@ -77,7 +77,7 @@ returns-in_err-buffer-clause-moments g c t u held =
     let k = key_of m c.args.section in
     let a = g.D.Device.time c.args.dev.now in
     let f = frame g.S.Seal.seal_of (g.V.Codec.spelling c.args.value.now) in
-    subst (λ x. AllMoments k (Outlasts (settled_bytes u (disk a k).content) (content_of u (disk a k).content ++ f)) a (g.D.Device.time x)) (sym (c.take.ensures.untouched (some_held (m.held c.args.section) u held)))
+    subst (λ x. AllMoments k (Outlasts (settled_bytes u (disk a k).content) (content_of u (disk a k).content ++ f)) a (g.D.Device.time x)) (sym (c.take.ensures.untouched (some_there (m.held c.args.section) u held)))
     (still_moments u f k a t ((c.requires.over.over.disk t).stands c.args.section u held) (serves_of _ m _ _ c.requires.over c.args.section u held))
 
 pub returns-in_err-buffer-clause-made : goal.returns-in_err-buffer-clause-made
@@ -97,7 +97,7 @@ returns-in_err-buffer-2-clause-moments g c t u held =
     let is : c.as_slice.result.now ≡ f = c.as_slice.ensures.value ∙ c.in_ok-frame.ensures.frame in
     let serves = taken_serves _ m (g.D.Device.opened c.args.dev.now) (disk (time c.args.dev.now)) c.requires.over s w (disk b) took.same (λ held. ap (λ x. disk (time x)) (c.take.ensures.untouched held)) took.idle took.stands in
     let adds = append_moments w c.as_slice.result.now f is k b e took.key t (took.stands t) serves (c.append.ensures.spares t) (c.append.ensures.since t) in
-    held_moments time c.args.dev.now c.take.new.dev c.append.new.dev u w f k (c.take.ensures.untouched (some_held (m.held s) u held)) (took.same u held) adds
+    held_moments time c.args.dev.now c.take.new.dev c.append.new.dev u w f k (c.take.ensures.untouched (some_there (m.held s) u held)) (took.same u held) adds
 
 pub returns-in_err-buffer-2-clause-made : goal.returns-in_err-buffer-2-clause-made
 returns-in_err-buffer-2-clause-made g c t none =
@@ -131,7 +131,7 @@ returns-in_err-put-clause-moments g c t u held =
     let is : c.as_slice.result.now ≡ f = c.as_slice.ensures.value ∙ c.in_ok-frame.ensures.frame in
     let serves = taken_serves _ m (g.D.Device.opened c.args.dev.now) (disk (time c.args.dev.now)) c.requires.over s w (disk b) took.same (λ held. ap (λ x. disk (time x)) (c.take.ensures.untouched held)) took.idle took.stands in
     let adds = append_moments w c.as_slice.result.now f is k b e took.key t (took.stands t) serves (c.append.ensures.spares t) (c.append.ensures.since t) in
-    held_moments time c.args.dev.now c.take.new.dev c.append.new.dev u w f k (c.take.ensures.untouched (some_held (m.held s) u held)) (took.same u held) adds
+    held_moments time c.args.dev.now c.take.new.dev c.append.new.dev u w f k (c.take.ensures.untouched (some_there (m.held s) u held)) (took.same u held) adds
 
 pub returns-in_err-put-clause-made : goal.returns-in_err-put-clause-made
 returns-in_err-put-clause-made g c t none =
@@ -165,7 +165,7 @@ returns-clause-moments g c t u held =
     let is : c.as_slice.result.now ≡ f = c.as_slice.ensures.value ∙ c.in_ok-frame.ensures.frame in
     let serves = taken_serves _ m (g.D.Device.opened c.args.dev.now) (disk (time c.args.dev.now)) c.requires.over s w (disk b) took.same (λ held. ap (λ x. disk (time x)) (c.take.ensures.untouched held)) took.idle took.stands in
     let adds = append_moments w c.as_slice.result.now f is k b e took.key t (took.stands t) serves (c.append.ensures.spares t) (c.append.ensures.since t) in
-    held_moments time c.args.dev.now c.take.new.dev c.append.new.dev u w f k (c.take.ensures.untouched (some_held (m.held s) u held)) (took.same u held) adds
+    held_moments time c.args.dev.now c.take.new.dev c.append.new.dev u w f k (c.take.ensures.untouched (some_there (m.held s) u held)) (took.same u held) adds
 
 pub returns-clause-made : goal.returns-clause-made
 returns-clause-made g c t none =

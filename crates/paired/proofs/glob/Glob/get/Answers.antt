@@ -1,7 +1,6 @@
 use Rattle.std.proofs.Common.{◌≡◌, ℕ, List, length, Some, None, inl, inr, sym, ◌∙◌, ap, subst, arith}
 use Rattle.blob_device.specs.Timeline.{disk}
 use Rattle.blob_device.specs.Disk.{Key}
-use Rattle.blob_device.proofs.Results.{err_of}
 use Rattle.sealed_pages.specs.Entries.{ReadsAtMost}
 use Rattle.sealed_pages.proofs.looking.Looking.{unchanged_now}
 use Rattle.section_manager.specs.managing.Managed.{shown}
@@ -13,6 +12,7 @@ use Rattle.paired.proofs.FrameLemmas.{length-frame, not_broken}
 use Rattle.paired.proofs.GlobLemmas.{glob_read}
 use Rattle.paired.proofs.ReadLemmas.{broken_at, differ_so, frame_at, same_front, no_frame, none_below, own_key, as_long, bytes_read, frame_inside}
 use Rattle.paired.proofs.glob.Glob.get.Goals as goal
+use Rattle.blob_device.proofs.general.Results.{err_of}
 
 pub returns-in_err-buffer-clause-gives : goal.returns-in_err-buffer-clause-gives
 returns-in_err-buffer-clause-gives g c t v accepted has =

@@ -2,10 +2,10 @@ use Rattle.std.specs.List.{Contains}
 use Rattle.blob_device.specs.Timeline.{disk}
 use Rattle.blob_device.proofs.Moments.{always_now}
 use Rattle.section_manager.specs.managing.Managed.{shown}
-use Rattle.section_manager.proofs.WalkLemmas.{contains_or_not}
 use Rattle.paired.proofs.CallLemmas.{sync_glob, sync_bytes, sync_settled, sync_all}
 use Rattle.paired.proofs.StepLemmas.{settling_moments, same_unopened, none_unsettled}
 use Rattle.paired.proofs.glob.Glob.sync.Goals as goal
+use Rattle.blob_device.proofs.general.Lists.{contains_or_not}
 
 pub returns-in_err-this-clause-moments : goal.returns-in_err-this-clause-moments
 returns-in_err-this-clause-moments g c t =

@@ -2,12 +2,12 @@ use Rattle.std.proofs.Common.{ℕ, inl, inr}
 use Rattle.std.specs.Prelude.{⊤}
 use Rattle.blob_device.specs.Timeline.{disk}
 use Rattle.blob_device.proofs.Moments.{always_now}
-use Rattle.blob_device.proofs.Results.{err_of, err_with}
 use Rattle.section_manager.specs.managing.Managed.{shown}
 use Rattle.segments.proofs.FixedPassing.{failed_on}
 use Rattle.paired.proofs.CallLemmas.{sync_glob, sync_bytes, sync_settled, sync_all}
 use Rattle.paired.proofs.StepLemmas.{settling_moments, same_unopened, none_unsettled}
 use Rattle.paired.proofs.glob.Glob.sync_all.Goals as goal
+use Rattle.blob_device.proofs.general.Results.{err_of, err_with}
 
 -- every section is named
 abbrev everywhere : ℕ → Type 0

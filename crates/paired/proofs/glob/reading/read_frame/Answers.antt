@@ -1,12 +1,12 @@
 use Rattle.std.proofs.Common.{◌≡◌, ℕ, List, ◌++◌, length, take, drop, inl, inr, ap, sym, ◌∙◌, arith}
 use Rattle.std.proofs.Math.Seq.{take-append_seam}
-use Rattle.blob_device.proofs.Results.{err_with, err_of}
 use Rattle.blob_device.specs.Timeline.{disk}
 use Rattle.paired.specs.Frames.{bytes_at}
 use Rattle.section_manager.specs.Raised.{raised}
 use Rattle.section_manager.specs.unsealed.Buffer.{content_of, key_of}
 use Rattle.paired.proofs.FailLemmas.{raised_failed}
 use Rattle.paired.proofs.glob.reading.read_frame.Goals as goal
+use Rattle.blob_device.proofs.general.Results.{err_of, err_with}
 
 filled : (len : ℕ) (buf items : List ℕ) → length buf ≡ length items → length items ≡ len → take len (buf ++ drop (length buf) items) ≡ buf
 filled len buf items long is = ap (λ (k : ℕ). take k (buf ++ drop (length buf) items)) (sym (long ∙ is)) ∙ take-append_seam buf (drop (length buf) items)

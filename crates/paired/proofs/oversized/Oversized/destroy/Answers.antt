@@ -1,5 +1,4 @@
 use Rattle.std.proofs.Common.{◌≡◌, inl, Option, IsTrue, IsSomeAnd, refl, sym, ◌∙◌, ap, subst}
-use Rattle.blob_device.proofs.Results.{on_ok}
 use Rattle.blob_device.specs.Disk.{Key, Blob, nothing}
 use Rattle.blob_device.specs.Opened.{Opened}
 use Rattle.blob_device.specs.Timeline.{disk}
@@ -13,6 +12,7 @@ use Rattle.paired.proofs.pair.Facts.{copies_gone}
 use Rattle.paired.proofs.pair.Stays.{journal_stays}
 use Rattle.paired.proofs.pair.Removing.{ascending, values_ascending, destroy_one, copies_go, copies_removed, copies_last, sections_wait, markers_gone, records_gone, values_gone, only_copies_go, none_leave, parts_of, destroy_ways, known_held, markers_first, records_first, index_first, index_last, values_first, own_entries, index_opened, values_opened, keeps_markers, keeps_records, keeps_values}
 use Rattle.paired.proofs.oversized.Oversized.destroy.Goals as goal
+use Rattle.blob_device.proofs.general.Results.{on_ok}
 
 pub returns-in_err-destroy-clause-moments : goal.returns-in_err-destroy-clause-moments
 returns-in_err-destroy-clause-moments g c t sound =

@@ -7,7 +7,6 @@ use Rattle.blob_device.specs.Disk.{Key, Blob, reads}
 use Rattle.blob_device.specs.Opened.{reads_of}
 use Rattle.blob_device.specs.Timeline.{disk, Always}
 use Rattle.blob_device.proofs.Moments.{always_now}
-use Rattle.blob_device.proofs.Results.{err_of, err_with, ok_with, on_err}
 use Rattle.sealed_pages.specs.declared.page_blob.PageBlob.{PageBlob}
 use Rattle.sealed_pages.specs.declared.pages.Pages.{Pages}
 use Rattle.sealed_pages.specs.declared.write_blob.WriteBlob.{WriteBlob}
@@ -47,6 +46,7 @@ use Rattle.paired.proofs.opening.StartRefusals.{no_loss, no_unreadable}
 use Rattle.paired.proofs.opening.StartRun.{ends_as, lost_as, unreadable_as}
 use Rattle.paired.proofs.pair.Synced.{layout_as}
 use Rattle.paired.proofs.oversized.Oversized.init_with_metadata.Goals as goal
+use Rattle.blob_device.proofs.general.Results.{err_of, err_with, ok_with, on_err}
 
 pub returns-in_err-tracking-clause-settles : goal.returns-in_err-tracking-clause-settles
 returns-in_err-tracking-clause-settles g c t =

@@ -3,10 +3,8 @@ use Rattle.std.specs.List.{Contains}
 use Rattle.std.proofs.lemmas.Bool.{cases_Bool}
 use Rattle.blob_device.specs.Disk.{Key}
 use Rattle.blob_device.specs.Timeline.{disk}
-use Rattle.blob_device.proofs.Results.{err_of}
 use Rattle.section_manager.specs.Raised.{raised_metadata}
 use Rattle.blob_device.proofs.Moments.{always_now, always_start, always_weaker}
-use Rattle.section_manager.proofs.WalkLemmas.{contains_or_not}
 use Rattle.segments.proofs.FixedWriteLemmas.{are_pages}
 use Rattle.meta_store.specs.Blobs.{blob_of, other_side, OnlyOne}
 use Rattle.meta_store.specs.Calls.{IsOpened}
@@ -24,6 +22,8 @@ use Rattle.paired.proofs.pair.FaultLemmas.{markers_apart}
 use Rattle.paired.proofs.pair.Failing.{full_markers, false_true, no_error, not_both}
 use Rattle.paired.proofs.pair.Synced.{here_of}
 use Rattle.paired.proofs.oversized.Oversized.move_markers.Goals as goal
+use Rattle.blob_device.proofs.general.Lists.{contains_or_not}
+use Rattle.blob_device.proofs.general.Results.{err_of}
 
 pub stage-requires : goal.stage-requires
 stage-requires g c s n is same =

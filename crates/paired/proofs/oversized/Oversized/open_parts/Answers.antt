@@ -7,7 +7,6 @@ use Rattle.blob_device.specs.Disk.{Key, Blob}
 use Rattle.blob_device.specs.Opened.{reads_of}
 use Rattle.blob_device.specs.Timeline.{disk, Always, Each}
 use Rattle.blob_device.proofs.Moments.{always_now}
-use Rattle.blob_device.proofs.Results.{err_of, err_with}
 use Rattle.sealed_pages.specs.declared.pages.Pages.{Pages}
 use Rattle.sealed_pages.specs.Shown as page_blob
 use Rattle.section_manager.specs.contracts.sealed.AppendFactoryBufferFactory.TheImpl as factory
@@ -31,6 +30,7 @@ use Rattle.paired.proofs.OpenParts.{floor_given, foreign_as, given, held_before,
 use Rattle.paired.proofs.pair.Sections.{glob_kept}
 use Rattle.paired.proofs.pair.Stays.{journal_stays}
 use Rattle.paired.proofs.oversized.Oversized.open_parts.Goals as goal
+use Rattle.blob_device.proofs.general.Results.{err_of, err_with}
 
 pub returns-clause-index : goal.returns-clause-index
 returns-clause-index g c =

@@ -1,6 +1,5 @@
 use Rattle.std.proofs.Common.{◌||◌, ◌≡◌, inl, inr, ℕ, ◌<◌, ◌≤◌, Bool, List, Option, IsTrue, IsSomeAnd, refl, sym, ◌∙◌, ap, subst, arith, rules}
 use Rattle.std.specs.Prelude.{◌↔◌}
-use Rattle.blob_device.proofs.Results.{err_of}
 use Rattle.blob_device.specs.Disk.{Blob}
 use Rattle.blob_device.specs.Opened.{Opened}
 use Rattle.blob_device.specs.Timeline.{disk}
@@ -32,6 +31,7 @@ use Rattle.paired.proofs.pair.Removing.{values_ascending, prune_one, copy_stays,
 use Rattle.paired.proofs.oversized.Oversized.prune.Goals.{then-records, else-records}
 use Rattle.paired.proofs.oversized.Oversized.prune.Goals as goal
 use Rattle.meta_store.specs.declared.copy.Contents.{Contents}
+use Rattle.blob_device.proofs.general.Results.{err_of}
 
 pub drop_below-requires : goal.drop_below-requires
 drop_below-requires g c =

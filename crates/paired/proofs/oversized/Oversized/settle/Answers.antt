@@ -1,10 +1,8 @@
 use Rattle.std.proofs.Common.{inl, inr, ℕ, ◌/◌, refl, sym, ◌∙◌, ap, arith}
 use Rattle.std.specs.Prelude.{◌<◌, unwrap_or}
 use Rattle.std.specs.List.{Contains}
-use Rattle.blob_device.proofs.Results.{err_of, err_with}
 use Rattle.blob_device.specs.Timeline.{disk}
 use Rattle.section_manager.specs.managing.Managed as manager
-use Rattle.section_manager.proofs.WalkLemmas.{contains_or_not}
 use Rattle.segments.specs.FixedLists.{section_size}
 use Rattle.segments.specs.FixedShown as fixed
 use Rattle.segments.proofs.FixedWriteLemmas.{are_pages}
@@ -20,6 +18,8 @@ use Rattle.segments.proofs.FixedPassing.{pruned_on}
 use Rattle.paired.proofs.pair.Passing.{no_value}
 use Rattle.paired.proofs.pair.Pruned.{pruned_as}
 use Rattle.paired.proofs.oversized.Oversized.settle.Goals as goal
+use Rattle.blob_device.proofs.general.Lists.{contains_or_not}
+use Rattle.blob_device.proofs.general.Results.{err_of, err_with}
 
 pub sync-requires-2 : goal.sync-requires-2
 sync-requires-2 g c =

@@ -1,4 +1,3 @@
-use Rattle.blob_device.proofs.Results.{err_of}
 use Rattle.std.specs.List.{Contains}
 use Rattle.paired.specs.PairShown.{shown}
 use Rattle.paired.proofs.pair.FaultLemmas.{faults_as, faults_ok}
@@ -6,6 +5,7 @@ use Rattle.paired.proofs.pair.Failing.{no_error}
 use Rattle.paired.proofs.pair.Passing.{no_value, tracked_on}
 use Rattle.paired.proofs.pair.Pruned.{pruned_as}
 use Rattle.paired.proofs.oversized.Oversized.start_sync_tracked.Goals as goal
+use Rattle.blob_device.proofs.general.Results.{err_of}
 
 pub returns-in_err-this : goal.returns-in_err-this
 returns-in_err-this g c =

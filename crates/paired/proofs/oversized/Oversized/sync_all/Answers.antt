@@ -6,17 +6,18 @@ use Rattle.blob_device.specs.Disk.{Key}
 use Rattle.blob_device.specs.Timeline.{disk}
 use Rattle.blob_device.proofs.Moments.{always_weaker}
 use Rattle.section_manager.specs.Sections.{IsHeld}
-use Rattle.section_manager.proofs.WalkLemmas.{contains_or_not}
 use Rattle.segments.proofs.FixedWriteLemmas.{are_pages}
 use Rattle.paired.specs.Crashes.{IsBlobOf, IsCopy, IsIndexOf, IsValuesOf}
 use Rattle.paired.specs.Pair.{list_of, synced_length}
 use Rattle.paired.specs.PairShown.{shown}
 use Rattle.paired.proofs.pair.FaultLemmas.{before_them, before_markers}
 use Rattle.paired.proofs.pair.Failing.{only_failed}
-use Rattle.paired.proofs.pair.Marked.{if_ok, if_both, lists_keep}
+use Rattle.paired.proofs.pair.Marked.{if_both, lists_keep}
 use Rattle.paired.proofs.pair.Settling.{all_in_order, any_blob, blob_within, copy_no_blob, keeping_wider, parts_of}
 use Rattle.paired.proofs.pair.Synced.{here_of, unheld_synced}
 use Rattle.paired.proofs.oversized.Oversized.sync_all.Goals as goal
+use Rattle.blob_device.proofs.general.Lists.{contains_or_not}
+use Rattle.blob_device.proofs.general.Results.{map_ok}
 
 not_held : {T : Type 0} (o : Option T) → (IsSome o → ⊥) → o ≡ None
 not_held None never = refl
@@ -112,7 +113,7 @@ returns-clause-settled g c =
     let r = c.settle.result in
     let says = c.settle.ensures in
     let all : (s : ℕ) → named s ↔ IsHeld p.index.sections s = (λ s. subst (λ (l : List ℕ). Contains l s ↔ IsHeld p.index.sections s) (sym c.as_slice.ensures.value) (c.in_ok-sections.ensures.each s)) in
-    if_ok r _ _ (λ v is s held. is s ((all s).1 (c.requires.over.whole.values_held s held)) held) says.settled
+    map_ok r _ _ (λ v is s held. is s ((all s).1 (c.requires.over.whole.values_held s held)) held) says.settled
 
 pub returns-clause-entries : goal.returns-clause-entries
 returns-clause-entries g c q index values =

@@ -4,16 +4,14 @@ use Rattle.std.specs.List.{Contains}
 use Rattle.std.proofs.Math.Seq.{take-length}
 use Rattle.blob_device.specs.Disk.{Key}
 use Rattle.blob_device.specs.Timeline.{disk, Always}
-use Rattle.blob_device.proofs.Results.{err_of}
 use Rattle.blob_device.proofs.Moments.{always_now, always_then, always_weaker}
 use Rattle.section_manager.specs.Sections.{IsHeld}
-use Rattle.section_manager.proofs.WalkLemmas.{contains_or_not}
 use Rattle.meta_store.specs.Blobs.{blob_of, other_side}
 use Rattle.paired.specs.Crashes.{IsBlobOf, IsCopy, IsIndexOf, IsOwn, IsValuesOf, Keeping, LeavesAlone}
 use Rattle.paired.specs.Kept.{Layout}
 use Rattle.paired.specs.Pair.{IsSafeOn, IsMoving, list_of, synced_length}
 use Rattle.paired.specs.PairShown.{shown}
-use Rattle.paired.proofs.pair.Marked.{moving_after, moving_before, if_ok}
+use Rattle.paired.proofs.pair.Marked.{moving_after, moving_before}
 use Rattle.paired.proofs.pair.FaultLemmas.{before_them_as, before_markers, rests_still}
 use Rattle.paired.proofs.pair.Failing.{pruned_ok, not_pruned, lost_since, markers_failed}
 use Rattle.paired.proofs.pair.Settling.{copy_no_blob, own_blob, in_order, in_order_then, keeping_wider}
@@ -23,6 +21,8 @@ use Rattle.paired.proofs.pair.Synced.{layout_as}
 use Rattle.paired.proofs.pair.Syncing.{sync_of}
 use Rattle.paired.proofs.pair.Passing.{no_value, settled_cause, settled_full, settled_lost}
 use Rattle.paired.proofs.oversized.Oversized.sync_tracked.Goals as goal
+use Rattle.blob_device.proofs.general.Lists.{contains_or_not}
+use Rattle.blob_device.proofs.general.Results.{err_of, map_ok}
 
 pub returns-in_err-this : goal.returns-in_err-this
 returns-in_err-this g c =
@@ -99,7 +99,7 @@ returns g c =
     record {
       over = c.move_markers.ensures.over;
       sound = λ t sound. c.move_markers.ensures.sound t (c.in_ok-this.ensures.sound t sound);
-      lists = λ t. if_ok r _ _ (λ v same s. same s ∙ says.lists t s) (moves.lists t);
+      lists = λ t. map_ok r _ _ (λ v same s. same s ∙ says.lists t s) (moves.lists t);
       synced =
           sync_of g.I.Record.place c.args.self c.in_ok-this.this named active (record {
             lengths = says.lengths;
@@ -114,7 +114,7 @@ returns g c =
             bounds = says.bounds;
             layout = says.layout;
           }) c.move_markers.result moves.index moves.values moves.synced moves.markers moves.active moves.marked (λ none. (moves.still (λ w. none (moving w))).1) moves.marker_floor moves.layout;
-      codec_config = if_ok r _ _ (λ v same. same ∙ says.codec_config) moves.codec_config;
+      codec_config = map_ok r _ _ (λ v same. same ∙ says.codec_config) moves.codec_config;
       moments = λ t.
           let copies : Always a b (λ d. (k : Key) → IsCopy p.layout k → d k ≡ disk a k) = always_weaker a b (λ d. (k : Key) → (IsBlobOf p.layout named k → ⊥) → d k ≡ disk a k) (λ d. (k : Key) → IsCopy p.layout k → d k ≡ disk a k)
           (λ d only k is. only k (copy_no_blob p.layout named c.requires.over.apart k is)) (c.settle.ensures.alone t) in

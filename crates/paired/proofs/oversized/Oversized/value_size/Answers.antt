@@ -4,7 +4,6 @@ use Rattle.blob_device.specs.declared.runtime.RError.TheVariants.{InvalidChecksu
 use Rattle.sealed_pages.specs.Buffer.{size_of}
 use Rattle.sealed_pages.specs.Shown as page_blob
 use Rattle.sealed_pages.proofs.looking.Looking.{unchanged_start, unchanged_now}
-use Rattle.blob_device.proofs.Results.{err_of}
 use Rattle.section_manager.specs.declared.journal.Error.TheVariants.{AlreadyPrunedToSection, Runtime, Codec, OffsetOverflow}
 use Rattle.section_manager.specs.declared.journal.Error.{Error}
 use Rattle.segments.specs.FixedReading.{is_item_held, IsAbsent}
@@ -19,6 +18,7 @@ use Rattle.paired.proofs.pair.Failing.{no_error}
 use Rattle.paired.proofs.pair.Passing.{no_value, pruned_cause, pruned_else, last_cause, last_overflow, sum_error, sum_cause, reads_still, not_empty}
 use Rattle.paired.proofs.pair.Pruned.{pruned_as}
 use Rattle.paired.proofs.oversized.Oversized.value_size.Goals as goal
+use Rattle.blob_device.proofs.general.Results.{err_of}
 
 pub returns-in_err-size : goal.returns-in_err-size
 returns-in_err-size g c =

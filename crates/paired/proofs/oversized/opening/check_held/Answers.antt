@@ -7,11 +7,11 @@ use Rattle.std.specs.Map.Iter.{deref_pair}
 use Rattle.std.proofs.lemmas.Map.Iter.{rest_more, rest_all}
 use Rattle.section_manager.specs.declared.journal.Damage.{Damage}
 use Rattle.section_manager.specs.Sections.{IsHeld}
-use Rattle.section_manager.proofs.WalkLemmas.{none_or_value}
 use Rattle.segments.specs.FixedShown.{shown}
 use Rattle.paired.proofs.OpenParts.{same_damage}
 use Rattle.paired.proofs.opening.Lemmas.{AreHeld, are_held_all, are_held_more, are_held_none}
 use Rattle.paired.proofs.oversized.opening.check_held.Goals as goal
+use Rattle.blob_device.proofs.general.Options.{none_or_value}
 
 pub loop-section-init : goal.loop-section-init
 loop-section-init g c = subst (λ (rest : List (ℕ × ℕ)). AreHeld (IsHeld (shown c.args.index.now).sections) c.args.floors.now.entries rest) (sym (c.into_iter-section-iterator.ensures.into_iter_gives ∙ c.iter-section-items.ensures.rest))

@@ -1,12 +1,12 @@
 use Rattle.std.proofs.Common.{◌≡◌, ◌+◌, ◌≤◌, ℕ, ap, subst, arith}
 use Rattle.std.specs.Option.{option_copied}
-use Rattle.blob_device.proofs.Results.{err_of}
 use Rattle.section_manager.specs.declared.journal.Error.TheVariants.{Corruption}
 use Rattle.section_manager.specs.managing.Managed as managed
 use Rattle.paired.specs.glob.Sections.{section_size}
 use Rattle.paired.specs.OpeningRefusing.{IsOutside}
 use Rattle.paired.proofs.opening.StartCauses.{error_back}
 use Rattle.paired.proofs.oversized.opening.check_value.Goals as goal
+use Rattle.blob_device.proofs.general.Results.{err_of}
 
 pub returns-clause-within : goal.returns-clause-within
 returns-clause-within g c v is =

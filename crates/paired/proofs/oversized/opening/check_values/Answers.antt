@@ -1,7 +1,6 @@
 use Rattle.std.proofs.Common.{◌≡◌, ◌∷◌, [], ◌+◌, ◌≤◌, Some, sym, ◌∙◌, ap, subst}
 use Rattle.std.specs.Option.{option_copied}
 use Rattle.std.proofs.lemmas.Map.Iter.{rest_more, rest_all}
-use Rattle.blob_device.proofs.Results.{err_of}
 use Rattle.section_manager.specs.declared.journal.Error.TheVariants.{Corruption}
 use Rattle.section_manager.specs.managing.Managed as managed
 use Rattle.segments.specs.FixedFloors as floors
@@ -10,6 +9,7 @@ use Rattle.paired.specs.OpeningRefusing.{IsOutside}
 use Rattle.paired.proofs.opening.StartCauses.{error_back}
 use Rattle.paired.proofs.opening.Lemmas.{checking_all, checking_first, checking_more, checking_none}
 use Rattle.paired.proofs.oversized.opening.check_values.Goals as goal
+use Rattle.blob_device.proofs.general.Results.{err_of}
 
 pub loop-section-init : goal.loop-section-init
 loop-section-init g c = rw c.into_iter-section-iterator.ensures.into_iter_gives

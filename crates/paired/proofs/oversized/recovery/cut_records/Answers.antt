@@ -7,14 +7,15 @@ use Rattle.std.specs.Ordering.{nat_cmp}
 use Rattle.std.proofs.lemmas.Cmp.{nat_cmp_total, eq_by_cmp_equiv}
 use Rattle.std.proofs.lemmas.Map.Iter.{btree_map_turn, iter_end}
 use Rattle.std.proofs.lemmas.Map.Views.{Contains-keys_from_lookup, IsSome-lookup_from_Contains}
-use Rattle.blob_device.proofs.Results.{err_of}
 use Rattle.sealed_pages.specs.Buffer.{size_of}
 use Rattle.sealed_pages.specs.Shown as page_blob
 use Rattle.section_manager.specs.contracts.sealed.PageBlobSectionBuffer.TheImpl as pages
-use Rattle.section_manager.proofs.sections.CutLemmas.{numbers_of, numbers_push, numbers_shown, same_number}
 use Rattle.segments.specs.FixedShown.{shown}
 use Rattle.paired.proofs.RecordCuts.{page_laws, cut_off, CutsOne, CutOne, RecordsTried, RecordsCut, cuts_start, whole_cut, tried_more, cuts_more, cuts_moments, cuts_idle, cuts_entries, cuts_cut, cuts_sizes, cuts_others, cuts_held, cuts_settled, cause_cut}
 use Rattle.paired.proofs.oversized.recovery.cut_records.Goals as goal
+use Rattle.blob_device.proofs.general.Maps.{numbers_of, numbers_push, numbers_shown}
+use Rattle.blob_device.proofs.general.Numbers.{same_number}
+use Rattle.blob_device.proofs.general.Results.{err_of}
 
 pub loop-section-init : goal.loop-section-init
 loop-section-init g c =

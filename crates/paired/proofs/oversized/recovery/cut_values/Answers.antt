@@ -2,7 +2,6 @@ use Rattle.std.proofs.Common.{◌∙◌, ◌≡◌, inl, ℕ, Some, IsSome, IsSo
 use Rattle.std.specs.BTreeMap.{get}
 use Rattle.std.specs.Ordering.{nat_cmp}
 use Rattle.blob_device.proofs.Moments.{always_now}
-use Rattle.blob_device.proofs.Results.{err_of, err_with}
 use Rattle.blob_device.specs.Timeline.{disk, Each}
 use Rattle.sealed_pages.proofs.looking.Looking.{unchanged_start}
 use Rattle.section_manager.specs.declared.journal.Error.TheVariants.{Mem}
@@ -18,6 +17,7 @@ use Rattle.paired.specs.Records.{records}
 use Rattle.paired.proofs.ValueEnds.{uncut_moments, cut_moments, cut_idle, cut_bytes, cut_entries, cut_others, cut_held, cut_settled, journal_cut, exact_end, pruned_none, cut_failed}
 use Rattle.paired.proofs.reconcile.Errors.{handed_on, if_err}
 use Rattle.paired.proofs.oversized.recovery.cut_values.Goals as goal
+use Rattle.blob_device.proofs.general.Results.{err_of, err_with}
 
 pub value_ends-requires : goal.value_ends-requires
 value_ends-requires g c = record { floor = c.requires.floors.1 }

@@ -2,11 +2,11 @@ use Rattle.std.proofs.Common.{◌≡◌, ℕ, List, take, get_or, refl, sym, ◌
 use Rattle.std.specs.List.{Contains}
 use Rattle.std.proofs.lemmas.List.{take_all, take_more}
 use Rattle.std.proofs.lemmas.List.Elements.{Contains-get_or}
-use Rattle.blob_device.proofs.Results.{err_of}
 use Rattle.section_manager.specs.managing.Managed.{shown}
 use Rattle.paired.proofs.RecordCuts.{cause_gone}
 use Rattle.paired.proofs.ValuesRemoved.{RemovesOne, RemovedOne, ValuesTried, ValuesGone, gone_start, gone_tried, gone_more}
 use Rattle.paired.proofs.oversized.recovery.remove_values.Goals as goal
+use Rattle.blob_device.proofs.general.Results.{err_of}
 
 pub loop-section-init : goal.loop-section-init
 loop-section-init g c = record {

@@ -9,8 +9,9 @@ use Rattle.section_manager.specs.Sections.{IsHeld}
 use Rattle.segments.specs.FixedShown.{shown}
 use Rattle.paired.specs.glob.Sections.{section_size}
 use Rattle.paired.specs.Reconciling.{IsCutOff}
-use Rattle.paired.proofs.ValueEnds.{EndsFound, ends_start, ends_more, ends_all, not_at}
+use Rattle.paired.proofs.ValueEnds.{EndsFound, ends_start, ends_more, ends_all}
 use Rattle.paired.proofs.oversized.recovery.value_ends.Goals as goal
+use Rattle.blob_device.proofs.general.Numbers.{not_at}
 
 pub loop-section-init : goal.loop-section-init
 loop-section-init g c =

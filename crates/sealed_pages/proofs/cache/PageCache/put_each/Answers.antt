@@ -3,8 +3,8 @@ use Rattle.std.proofs.lemmas.List.{take_all}
 use Rattle.std.proofs.Math.Nat.{div-mul-le_self, mul-le-mul_right}
 use Rattle.sealed_pages.specs.Cached.{held_in, full_pages, AreFull}
 use Rattle.sealed_pages.proofs.memory.CacheLemmas.{held_few, full_next, put_next, slice_page}
-use Rattle.sealed_pages.proofs.slots.SlotLemmas.{times_next}
 use Rattle.sealed_pages.proofs.cache.PageCache.put_each.Goals as goal
+use Rattle.blob_device.proofs.general.Numbers.{times_next}
 
 pub pages-init : goal.pages-init
 pages-init c = record {

@@ -3,9 +3,9 @@ use Rattle.std.proofs.Math.Nat.{div-mul-le_self, mul-le-mul_right}
 use Rattle.sealed_pages.specs.Cached.{PutsFull}
 use Rattle.sealed_pages.proofs.memory.CacheLemmas.{full_later, last_count, puts_last}
 use Rattle.sealed_pages.proofs.slots.PageCalls.{rest_whole}
-use Rattle.sealed_pages.proofs.cutting.Truncating.{map_ok}
 use Rattle.sealed_pages.proofs.cache.PageCache.put_full.Goals as goal
 use Rattle.sealed_pages.proofs.cache.PageCache.put_full.Goals.{After-saturating_sub-skip}
+use Rattle.blob_device.proofs.general.Results.{map_ok}
 
 -- how many of the pages go at once
 skipped : (c : After-saturating_sub-skip) → c.saturating_sub-skip.result ≡ length c.args.bytes.now / c.args.page_size - c.args.self.most

@@ -1,11 +1,11 @@
 use Rattle.std.proofs.Common.{rules, ◌≡◌, ◌+◌, ◌<◌, ◌++◌, ◌^◌, inl, inr, ap, refl, arith, length, length-append}
-use Rattle.blob_device.proofs.Results.{err_of}
 use Rattle.sealed_pages.specs.Buffer.{extent, size_of}
 use Rattle.sealed_pages.specs.Shown.{shown}
 use Rattle.sealed_pages.proofs.AppendEnds.{append_refused, append_kept, append_unflushed, append_flushed, over_of, fits_of}
 use Rattle.sealed_pages.proofs.page_blob.PageBlob.append.Given as given
 use Rattle.sealed_pages.proofs.page_blob.PageBlob.append.Goals as goal
 use Rattle.sealed_pages.proofs.page_blob.PageBlob.append.Goals.{After-extend_from_slice, In_ok-extend_from_slice}
+use Rattle.blob_device.proofs.general.Results.{err_of}
 
 -- the bytes fit
 fits : (g : given.Over) (c : After-extend_from_slice g) → extent c.args.self.page_size (size_of (shown c.args.self) + length c.args.bytes.now) < 2 ^ 64

@@ -1,5 +1,4 @@
 use Rattle.std.proofs.Common.{rules, ◌≡◌, ◌+◌, ◌*◌, ◌<◌, ◌^◌, sym, subst, ℕ, length, arith}
-use Rattle.blob_device.proofs.Results.{err_of}
 use Rattle.sealed_pages.specs.Buffer.{size_of}
 use Rattle.sealed_pages.specs.Shown.{shown}
 use Rattle.sealed_pages.specs.View.{page_at}
@@ -10,6 +9,7 @@ use Rattle.sealed_pages.proofs.cutting.Truncating.{extent_less}
 use Rattle.sealed_pages.proofs.page_blob.PageBlob.cut_within.Given as given
 use Rattle.sealed_pages.proofs.page_blob.PageBlob.cut_within.Goals as goal
 use Rattle.sealed_pages.proofs.page_blob.PageBlob.cut_within.Goals.{After-blob}
+use Rattle.blob_device.proofs.general.Results.{err_of}
 
 -- the page, with its slots, ends below 2^64
 room : (g : given.Over) (c : After-blob g) → page_at c.args.self.page_size c.args.page + (c.args.self.page_size + 12) < 2 ^ 64

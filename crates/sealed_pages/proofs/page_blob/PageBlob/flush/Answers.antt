@@ -1,8 +1,8 @@
 use Rattle.std.proofs.Common.{arith, refl}
-use Rattle.blob_device.proofs.Results.{err_of}
 use Rattle.sealed_pages.specs.Shown.{shown}
 use Rattle.sealed_pages.proofs.FlushEnds.{flush_idle, flush_unrepaired, flush_written}
 use Rattle.sealed_pages.proofs.page_blob.PageBlob.flush.Goals as goal
+use Rattle.blob_device.proofs.general.Results.{err_of}
 
 pub returns-then-self-len : goal.returns-then-self-len
 returns-then-self-len g c = flush_idle g.D.Device g.S.Seal.seal_of shown c.args.dev.now c.args.self c.args.self.fit.begun c.args.self.fit.within c.args.self.few (omega (arith, c.if-self-len.true)) c.requires.«open»

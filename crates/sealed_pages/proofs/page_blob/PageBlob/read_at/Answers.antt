@@ -20,7 +20,6 @@ use Rattle.sealed_pages.specs.View.{view}
 use Rattle.sealed_pages.proofs.memory.Holding.{fit_room}
 use Rattle.sealed_pages.proofs.slots.WholeLemmas.{whole_read}
 use Rattle.sealed_pages.proofs.looking.ReadLemmas.{read_whole, put_tail, front_of, same_error}
-use Rattle.blob_device.proofs.Results.{err_of}
 use Rattle.sealed_pages.specs.BlobReads.{ReadsPages}
 use Rattle.sealed_pages.specs.Entries.{IsOpenAt}
 use Rattle.sealed_pages.specs.Cached.{held_in, AreWhole}
@@ -28,6 +27,7 @@ use Rattle.sealed_pages.specs.View.{page_at}
 use Rattle.sealed_pages.proofs.page_blob.PageBlob.read_at.Given as given
 use Rattle.sealed_pages.proofs.page_blob.PageBlob.read_at.Goals.{After-read_pages}
 use Rattle.sealed_pages.proofs.page_blob.PageBlob.read_at.Goals as goal
+use Rattle.blob_device.proofs.general.Results.{err_of}
 
 -- the pages that are read are those of this buffer's blob
 pub read_pages-requires-clause-open : goal.read_pages-requires-clause-open

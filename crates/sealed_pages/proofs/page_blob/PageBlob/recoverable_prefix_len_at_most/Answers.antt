@@ -2,7 +2,6 @@ use Rattle.std.proofs.Common.{◌≡◌, ◌∙◌, ◌+◌, ◌/◌, ◌%◌, m
 use Rattle.blob_device.specs.Disk.{Key}
 use Rattle.blob_device.specs.Timeline.{disk}
 use Rattle.blob_device.specs.declared.runtime.RError.{RError}
-use Rattle.blob_device.proofs.Results.{err_of}
 use Rattle.sealed_pages.specs.BlobReads.{Measures}
 use Rattle.sealed_pages.specs.Buffer.{key_of}
 use Rattle.sealed_pages.specs.Entries.{IsOpenAt}
@@ -14,6 +13,7 @@ use Rattle.sealed_pages.proofs.cutting.Truncating.{no_value}
 use Rattle.sealed_pages.proofs.page_blob.PageBlob.recoverable_prefix_len_at_most.Given as given
 use Rattle.sealed_pages.proofs.page_blob.PageBlob.recoverable_prefix_len_at_most.Goals.{After-prefix_len}
 use Rattle.sealed_pages.proofs.page_blob.PageBlob.recoverable_prefix_len_at_most.Goals as goal
+use Rattle.blob_device.proofs.general.Results.{err_of}
 
 pub prefix_len-requires-clause-open : goal.prefix_len-requires-clause-open
 prefix_len-requires-clause-open g c = subst (λ (x : Key × ℕ). IsOpenAt (g.D.Device.opened c.args.dev.now) x.0 x.1) (λ j. (sym c.blob.ensures.key j, sym c.blob.ensures.end j)) c.requires

@@ -1,9 +1,9 @@
 use Rattle.std.proofs.Common.{rules, arith, refl}
-use Rattle.blob_device.proofs.Results.{err_of}
 use Rattle.sealed_pages.specs.Shown.{shown}
 use Rattle.sealed_pages.proofs.memory.Holding.{fit_places}
 use Rattle.sealed_pages.proofs.RepairEnds.{nothing_left, removal_failed, removal_done}
 use Rattle.sealed_pages.proofs.page_blob.PageBlob.repaired.Goals as goal
+use Rattle.blob_device.proofs.general.Results.{err_of}
 
 pub repair-requires-clause-begin : goal.repair-requires-clause-begin
 repair-requires-clause-begin g c = omega (arith, c.blob.ensures.page_size, c.args.self.fit.begun)

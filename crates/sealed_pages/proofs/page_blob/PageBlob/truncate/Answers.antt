@@ -5,7 +5,6 @@ use Rattle.blob_device.specs.Disk.{Key}
 use Rattle.blob_device.specs.Timeline.{Timeline, disk}
 use Rattle.blob_device.specs.declared.runtime.RError.TheVariants.{Fault, InvalidChecksum, Mem}
 use Rattle.blob_device.specs.Counts.{Rose}
-use Rattle.blob_device.proofs.Results.{err_of, ok_with, on_err}
 use Rattle.sealed_pages.specs.Buffer.{key_of, size_of, bytes_of}
 use Rattle.sealed_pages.specs.Cutting.{FewReads}
 use Rattle.sealed_pages.specs.Entries.{NoReads}
@@ -16,12 +15,13 @@ use Rattle.sealed_pages.proofs.cutting.Calls.{sealing_less}
 use Rattle.sealed_pages.proofs.cutting.Entries.{few_none, few_then, then_few}
 use Rattle.sealed_pages.proofs.memory.Holding.{holds_start, bytes_length}
 use Rattle.sealed_pages.proofs.slots.PageCalls.{alone_start}
-use Rattle.sealed_pages.proofs.cutting.Truncating.{no_value, as_of, both_ok, page_named, not_named, rose_since}
+use Rattle.sealed_pages.proofs.cutting.Truncating.{no_value, as_of, page_named, not_named, rose_since}
 use Rattle.sealed_pages.proofs.cutting.TruncateEnds as ends
-use Rattle.sealed_pages.proofs.cutting.TruncateEnds.{SyncedCut, IsCut, placed, is_cut, cut_as, cut_open, failed_since, cause_since, caused, page_around, few_start, no_page, no_recovery, ok_of}
+use Rattle.sealed_pages.proofs.cutting.TruncateEnds.{SyncedCut, IsCut, placed, is_cut, cut_as, cut_open, failed_since, cause_since, caused, page_around, few_start, no_page, no_recovery}
 use Rattle.sealed_pages.proofs.UnrecoveredLemmas.{stood_keeps, keeps_sealing}
 use Rattle.sealed_pages.proofs.page_blob.PageBlob.truncate.Given as given
 use Rattle.sealed_pages.proofs.page_blob.PageBlob.truncate.Goals as goal
+use Rattle.blob_device.proofs.general.Results.{both_ok, err_of, if_ok_weaker, ok_with, on_err}
 
 pub cut_within-requires-clause-below : goal.cut_within-requires-clause-below
 cut_within-requires-clause-below g c =
@@ -135,7 +135,7 @@ at-start g c = omega (arith, (placed c.in_ok-this.this.page_size c.from-page_siz
 
 -- the buffer that it gives
 marks-start : (g : given.Over) (c : goal.After-cut_at g) → IfOk c.cut_at.result (λ v. IsCut (shown c.args.self) c.args.len (c.args.len / c.from-page_size.result) (shown v))
-marks-start g c = ok_of c.cut_at.result c.cut_at.ensures.same (λ v is. is_cut (shown c.args.self) (shown c.in_ok-this.this) (shown v) c.args.len (c.args.len / c.from-page_size.result) []
+marks-start g c = if_ok_weaker c.cut_at.result c.cut_at.ensures.same (λ v is. is_cut (shown c.args.self) (shown c.in_ok-this.this) (shown v) c.args.len (c.args.len / c.from-page_size.result) []
     c.in_ok-this.ensures.key c.in_ok-this.ensures.page_size c.in_ok-this.ensures.capacity c.in_ok-this.ensures.cache_pages v.fit.begun (omega (arith, at-start g c)) is)
 
 -- what the two calls say
@@ -196,20 +196,20 @@ returns-then-keep-eq0 g c = record {
   bytes = λ t. ends.cut_bytes_are (ends-start g c t);
   backed = λ t. ends.cut_is_backed (ends-start g c t);
   alone = λ t. ends.cut_alone (ends-start g c t);
-  cache = λ lt. ok_of c.cut_at.result (marks-start g c) (λ v m. m.cache);
+  cache = λ lt. if_ok_weaker c.cut_at.result (marks-start g c) (λ v m. m.cache);
   unchanged = λ le. absurd (omega (arith, le, c.size.ensures, c.if-len-size.false));
   same = λ le. absurd (omega (arith, le, c.size.ensures, c.if-len-size.false));
-  settled = λ lt. ok_of c.cut_at.result (marks-start g c) (λ v m. m.settled);
+  settled = λ lt. if_ok_weaker c.cut_at.result (marks-start g c) (λ v m. m.settled);
   rests = λ t lt. (ends-start g c t).cut.rests;
   shorter = λ t lt. (ends-start g c t).cut.shorter;
   again = λ t lt. ends.cut_again (ends-start g c t);
   leaves = λ t lt. ends.cut_leaves (ends-start g c t);
-  size = ok_of c.cut_at.result (marks-start g c) (λ v m. omega (arith, m.size, c.size.ensures, c.if-len-size.false));
-  key = ok_of c.cut_at.result (marks-start g c) (λ v m. m.key);
-  page_size = ok_of c.cut_at.result (marks-start g c) (λ v m. m.page);
-  capacity = ok_of c.cut_at.result (marks-start g c) (λ v m. m.capacity);
-  cache_pages = ok_of c.cut_at.result (marks-start g c) (λ v m. m.cache_pages);
-  known = λ t known. ok_of c.cut_at.result (marks-start g c) (λ v m has. absurd (cc (has, m.clean)));
+  size = if_ok_weaker c.cut_at.result (marks-start g c) (λ v m. omega (arith, m.size, c.size.ensures, c.if-len-size.false));
+  key = if_ok_weaker c.cut_at.result (marks-start g c) (λ v m. m.key);
+  page_size = if_ok_weaker c.cut_at.result (marks-start g c) (λ v m. m.page);
+  capacity = if_ok_weaker c.cut_at.result (marks-start g c) (λ v m. m.capacity);
+  cache_pages = if_ok_weaker c.cut_at.result (marks-start g c) (λ v m. m.cache_pages);
+  known = λ t known. if_ok_weaker c.cut_at.result (marks-start g c) (λ v m has. absurd (cc (has, m.clean)));
   «open» = cut_open shown (shown c.args.self) (shown c.in_ok-this.this) c.args.len (c.args.len / c.from-page_size.result) (g.D.Device.opened c.cut_at.new.dev) c.cut_at.result c.in_ok-this.ensures.key (marks-start g c) c.cut_at.ensures.length;
   entries = few_then 1 (key_of (shown c.args.self)) _ (g.D.Device.opened c.sync.new.dev) _ (few_none 1 (key_of (shown c.args.self)) _ _ c.in_ok-this.ensures.entries)
       (subst (λ (q : Key). NoReads q (g.D.Device.opened c.sync.new.dev) (g.D.Device.opened c.cut_at.new.dev)) c.in_ok-this.ensures.key c.cut_at.ensures.entries);
@@ -232,7 +232,7 @@ at-inside g c = omega (arith, (placed c.in_ok-this.this.page_size c.from-page_si
 
 -- the buffer that it gives
 marks-inside : (g : given.Over) (c : goal.After-cut_within g) → IfOk c.cut_within.result (λ v. IsCut (shown c.args.self) c.args.len (c.args.len / c.from-page_size.result) (shown v))
-marks-inside g c = ok_of c.cut_within.result (both_ok _ _ _ c.cut_within.ensures.same c.cut_within.ensures.long)
+marks-inside g c = if_ok_weaker c.cut_within.result (both_ok _ _ _ c.cut_within.ensures.same c.cut_within.ensures.long)
     (λ v is. is_cut (shown c.args.self) (shown c.in_ok-this.this) (shown v) c.args.len (c.args.len / c.from-page_size.result) v.tip.items
     c.in_ok-this.ensures.key c.in_ok-this.ensures.page_size c.in_ok-this.ensures.capacity c.in_ok-this.ensures.cache_pages v.fit.begun (omega (arith, at-inside g c, is.1)) is.0)
 
@@ -300,20 +300,20 @@ returns g c = record {
   bytes = λ t. ends.cut_bytes_are (ends-inside g c t);
   backed = λ t. ends.cut_is_backed (ends-inside g c t);
   alone = λ t. ends.cut_alone (ends-inside g c t);
-  cache = λ lt. ok_of c.cut_within.result (marks-inside g c) (λ v m. m.cache);
+  cache = λ lt. if_ok_weaker c.cut_within.result (marks-inside g c) (λ v m. m.cache);
   unchanged = λ le. absurd (omega (arith, le, c.size.ensures, c.if-len-size.false));
   same = λ le. absurd (omega (arith, le, c.size.ensures, c.if-len-size.false));
-  settled = λ lt. ok_of c.cut_within.result (marks-inside g c) (λ v m. m.settled);
+  settled = λ lt. if_ok_weaker c.cut_within.result (marks-inside g c) (λ v m. m.settled);
   rests = λ t lt. (ends-inside g c t).cut.rests;
   shorter = λ t lt. (ends-inside g c t).cut.shorter;
   again = λ t lt. ends.cut_again (ends-inside g c t);
   leaves = λ t lt. ends.cut_leaves (ends-inside g c t);
-  size = ok_of c.cut_within.result (marks-inside g c) (λ v m. omega (arith, m.size, c.size.ensures, c.if-len-size.false));
-  key = ok_of c.cut_within.result (marks-inside g c) (λ v m. m.key);
-  page_size = ok_of c.cut_within.result (marks-inside g c) (λ v m. m.page);
-  capacity = ok_of c.cut_within.result (marks-inside g c) (λ v m. m.capacity);
-  cache_pages = ok_of c.cut_within.result (marks-inside g c) (λ v m. m.cache_pages);
-  known = λ t known. ok_of c.cut_within.result (marks-inside g c) (λ v m has. absurd (cc (has, m.clean)));
+  size = if_ok_weaker c.cut_within.result (marks-inside g c) (λ v m. omega (arith, m.size, c.size.ensures, c.if-len-size.false));
+  key = if_ok_weaker c.cut_within.result (marks-inside g c) (λ v m. m.key);
+  page_size = if_ok_weaker c.cut_within.result (marks-inside g c) (λ v m. m.page);
+  capacity = if_ok_weaker c.cut_within.result (marks-inside g c) (λ v m. m.capacity);
+  cache_pages = if_ok_weaker c.cut_within.result (marks-inside g c) (λ v m. m.cache_pages);
+  known = λ t known. if_ok_weaker c.cut_within.result (marks-inside g c) (λ v m has. absurd (cc (has, m.clean)));
   «open» = cut_open shown (shown c.args.self) (shown c.in_ok-this.this) c.args.len (c.args.len / c.from-page_size.result) (g.D.Device.opened c.cut_within.new.dev) c.cut_within.result c.in_ok-this.ensures.key (marks-inside g c) c.cut_within.ensures.length;
   entries = then_few 1 (key_of (shown c.args.self)) _ (g.D.Device.opened c.sync.new.dev) _ c.in_ok-this.ensures.entries
       (subst (λ (q : Key). FewReads 1 q (g.D.Device.opened c.sync.new.dev) (g.D.Device.opened c.cut_within.new.dev)) c.in_ok-this.ensures.key c.cut_within.ensures.entries);

@@ -1,7 +1,6 @@
 use Rattle.sealed_pages.proofs.cutting.Truncating.{no_value, raised_cause}
 use Rattle.sealed_pages.proofs.cutting.TruncateEnds.{no_page}
 use Rattle.blob_device.specs.Counts.{Rose}
-use Rattle.blob_device.proofs.Results.{on_err, on_ok}
 use Rattle.std.proofs.Common.{rules, ◌≡◌, ◌≤◌, ◌<◌, ◌+◌, ◌-◌, ◌*◌, ◌/◌, ◌^◌, ◌++◌, ◌∙◌, ◌⊎◌, Err, inl, inr, ℕ, List, refl, length, take, drop, length-drop, length-append, ap, sym, subst, arith}
 use Rattle.std.specs.String.{string_bytes}
 use Rattle.std.proofs.Math.Nat.{div-mul-le_self}
@@ -24,6 +23,7 @@ use Rattle.sealed_pages.specs.Readers.{IsReplayOf}
 use Rattle.sealed_pages.proofs.replay.PageReplay.fetch.Given as given
 use Rattle.sealed_pages.proofs.replay.PageReplay.fetch.Goals.{After-load, After-covered_len-covered, After-min-upto}
 use Rattle.sealed_pages.proofs.replay.PageReplay.fetch.Goals as goal
+use Rattle.blob_device.proofs.general.Results.{on_err, on_ok}
 
 pub load-requires-clause-place : goal.load-requires-clause-place
 load-requires-clause-place g c =

@@ -4,7 +4,6 @@ use Rattle.std.proofs.Common.{◌≡◌, ◌∙◌, ℕ, List, [], ◌∷◌, le
 use Rattle.blob_device.specs.Disk.{Key}
 use Rattle.blob_device.specs.Change.{written}
 use Rattle.blob_device.specs.Timeline.{disk}
-use Rattle.blob_device.proofs.Bytes.{length-written}
 use Rattle.sealed_pages.specs.Entries.{IsOpenAt}
 use Rattle.sealed_pages.specs.unsealed.Writing.{WriteBuffer, shown, blob_key, bytes_of}
 use Rattle.sealed_pages.proofs.looking.Looking.{content_length}
@@ -12,6 +11,7 @@ use Rattle.sealed_pages.proofs.WriteLemmas.{written_nothing}
 use Rattle.sealed_pages.proofs.unsealed.WritingLemmas.{idle_bytes}
 use Rattle.sealed_pages.proofs.unsealed.ContentLemmas.{adds_start}
 use Rattle.sealed_pages.proofs.write_blob.WriteBlob.moved.Goals as goal
+use Rattle.blob_device.specs.Lengths.{length-written}
 
 pub returns-then-joins : goal.returns-then-joins
 returns-then-joins g c =

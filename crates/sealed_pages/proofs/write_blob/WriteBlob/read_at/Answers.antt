@@ -4,7 +4,6 @@ use Rattle.std.proofs.Common.{◌≡◌, ◌+◌, ◌≤◌, ◌∙◌, ℕ, Lis
 use Rattle.blob_device.specs.declared.runtime.RError.TheVariants.{BlobInsufficientLength, OffsetOverflow}
 use Rattle.blob_device.specs.Change.{written}
 use Rattle.blob_device.specs.Timeline.{disk}
-use Rattle.blob_device.proofs.Bytes.{length-written}
 use Rattle.sealed_pages.specs.Filled.{HasBytes}
 use Rattle.sealed_pages.specs.unsealed.Writing.{shown, blob_key, bytes_of}
 use Rattle.sealed_pages.proofs.looking.Looking.{content_length}
@@ -12,6 +11,7 @@ use Rattle.sealed_pages.proofs.unsealed.Read.{read_refused}
 use Rattle.sealed_pages.proofs.WriteLemmas.{filled_is}
 use Rattle.sealed_pages.proofs.write_blob.WriteBlob.read_at.Goals as goal
 use Rattle.sealed_pages.proofs.write_blob.WriteBlob.read_at.Goals.{then-not-holds+in_ok-read_blob, else-not-holds}
+use Rattle.blob_device.specs.Lengths.{length-written}
 
 pub returns-then-len-offset : goal.returns-then-len-offset
 returns-then-len-offset g c = read_refused g.D.Device (shown c.args.self.now) c.args.offset c.args.buf.now c.args.buf.now c.args.dev.now (Err OffsetOverflow) refl (search rules) (search rules) (inl refl)

@@ -1,7 +1,6 @@
 use Rattle.std.proofs.lemmas.Grind.{common_steps}
 use Rattle.std.proofs.lemmas.List.{take_all}
 use Rattle.std.proofs.Common.{refl, take, arith, rules, sym}
-use Rattle.blob_device.proofs.Bytes.{length-written}
 use Rattle.blob_device.specs.Timeline.{disk}
 use Rattle.sealed_pages.specs.unsealed.Writing.{WriteBuffer, shown, blob_key, bytes_of}
 use Rattle.sealed_pages.proofs.EntryLemmas.{no_reads_start, open_some}
@@ -11,6 +10,7 @@ use Rattle.sealed_pages.proofs.unsealed.Settled.{SettledAs}
 use Rattle.sealed_pages.proofs.write_blob.WriteBlob.truncate.Given as given
 use Rattle.sealed_pages.proofs.write_blob.WriteBlob.truncate.Goals as goal
 use Rattle.sealed_pages.proofs.write_blob.WriteBlob.truncate.Goals.{After-flushed, After-shortened, After-rested}
+use Rattle.blob_device.specs.Lengths.{length-written}
 
 -- what has been done to the blob by the end of each call
 by_flush : (g : given.Over) (c : After-flushed g) → g.D.Device.Tells → CutBy (shown c.args.self) c.args.len (g.D.Device.time c.args.dev.now) (g.D.Device.time c.flushed.new.dev)

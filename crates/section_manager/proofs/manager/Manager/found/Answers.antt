@@ -11,8 +11,9 @@ use Rattle.std.specs.Prelude.{string_bytes}
 use Rattle.section_manager.specs.managing.Managed.{shown}
 use Rattle.section_manager.specs.managing.Opening.{Knows}
 use Rattle.section_manager.proofs.Seen.{err_seen}
-use Rattle.section_manager.proofs.NumberLemmas.{of_listed, listed_or_not}
+use Rattle.section_manager.proofs.NumberLemmas.{of_listed}
 use Rattle.section_manager.proofs.manager.Manager.found.Goals as goal
+use Rattle.blob_device.proofs.general.Lists.{contains_or_not}
 
 pub loop-number-init : goal.loop-number-init
 loop-number-init g c = record {
@@ -55,7 +56,7 @@ returns g c = record {
   others = c.loop-number.invariant.others;
   number = λ s known. elim known [
     | inl held ↦ absurd (cc (ap is_some (c.new.ensures s), held))
-    | inr unopened ↦ elim (listed_or_not c.args.numbers.now s) [
+    | inr unopened ↦ elim (contains_or_not c.args.numbers.now s) [
       | inl listed ↦ of_listed (λ n. n < 2 ^ 64) c.args.numbers.now s (λ k lt. (c.type_inv.numbers k).fits) listed
       | inr none ↦ absurd (cc (ap is_some (c.loop-number.invariant.others s none), unopened))
     ]

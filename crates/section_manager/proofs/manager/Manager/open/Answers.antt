@@ -1,7 +1,6 @@
 use Rattle.std.specs.Prelude.{◌≡◌}
 use Rattle.std.proofs.Common.{◌∙◌, refl, sym, subst, arith}
 use Rattle.blob_device.specs.Disk.{Key, Blob}
-use Rattle.blob_device.proofs.Results.{err_of}
 use Rattle.sealed_pages.specs.Entries.{IsOpenAt}
 use Rattle.section_manager.specs.managing.Managed.{shown}
 use Rattle.section_manager.specs.Sections.{key_of}
@@ -9,6 +8,7 @@ use Rattle.section_manager.proofs.Seen.{device_failed}
 use Rattle.section_manager.proofs.sections.OpenLemmas.{opening_moments, opened_moments, opened_made, opened_has, entered_at, entered_entries, entered_reads}
 use Rattle.section_manager.proofs.sections.OpeningEnds.{blob_failed, blob_refused}
 use Rattle.section_manager.proofs.manager.Manager.open.Goals as goal
+use Rattle.blob_device.proofs.general.Results.{err_of}
 
 pub returns-in_err-size : goal.returns-in_err-size
 returns-in_err-size g c = blob_refused g.F.Buffer.SectionBuffer g.F.BufferFactory.gives g.D.Device (key_of (shown c.args.self.now) c.args.section) c.args.self.now.factory c.args.dev.now c.open_blob.new.self

@@ -1,11 +1,11 @@
 use Rattle.std.proofs.Common.{refl, sym, subst, rules}
-use Rattle.blob_device.proofs.Results.{err_of}
 use Rattle.section_manager.specs.managing.Lending.{IsPut}
 use Rattle.section_manager.specs.managing.Managed.{shown}
 use Rattle.section_manager.specs.managing.Opening.{Puts}
 use Rattle.section_manager.proofs.sections.OpenLemmas.{all_same, put_stands}
 use Rattle.section_manager.proofs.sections.OpeningEnds.{put_opened}
 use Rattle.section_manager.proofs.manager.Manager.put.Goals as goal
+use Rattle.blob_device.proofs.general.Results.{err_of}
 
 pub returns-in_err-insert : goal.returns-in_err-insert
 returns-in_err-insert g c =

@@ -10,9 +10,11 @@ use Rattle.std.specs.Map.{keys_of}
 use Rattle.section_manager.specs.managing.Managed.{shown}
 use Rattle.section_manager.proofs.Seen.{err_same, err_seen}
 use Rattle.section_manager.proofs.sections.SyncLemmas.{BufferLaws}
-use Rattle.section_manager.proofs.sections.CutLemmas.{CutWalked, CutTried, cut_tried_start, cut_walked_start, can_still, cut_tried_more, cut_walked_more, numbers_of, numbers_push, numbers_shown, same_number}
+use Rattle.section_manager.proofs.sections.CutLemmas.{CutWalked, CutTried, cut_tried_start, cut_walked_start, can_still, cut_tried_more, cut_walked_more}
 use Rattle.section_manager.proofs.sections.CuttingEnds.{cut_call, cut_made, each_cut, each_failed, each_refused, walked_named}
 use Rattle.section_manager.proofs.manager.Manager.truncate_pending_sections.Goals as goal
+use Rattle.blob_device.proofs.general.Maps.{numbers_of, numbers_push, numbers_shown}
+use Rattle.blob_device.proofs.general.Numbers.{same_number}
 
 pub loop-section-init : goal.loop-section-init
 loop-section-init g c =

@@ -2,11 +2,11 @@ use Rattle.std.proofs.Common.{inl, inr, ap, sym, subst}
 use Rattle.std.proofs.lemmas.Bool.{cases_lt}
 use Rattle.blob_device.specs.Disk.{Blob}
 use Rattle.blob_device.specs.Timeline.{Timeline, disk}
-use Rattle.blob_device.proofs.Results.{if_ok_with}
 use Rattle.section_manager.specs.unsealed.Buffer.{key_of, count_of, IsWhole}
 use Rattle.section_manager.proofs.sections.EntryLemmas.{starts_none}
 use Rattle.section_manager.proofs.buffers.UnsealedCalls.{cut_moments, whole_at_rest, whole_again, stands_after, undamaged}
 use Rattle.section_manager.proofs.unsealed.WriteBlobSectionBuffer.truncate.Goals as goal
+use Rattle.blob_device.proofs.general.Results.{if_ok_with}
 
 pub returns-clause-moments : goal.returns-clause-moments
 returns-clause-moments g c t stands = cut_moments c.args.self _ _ _ stands c.args.len (c.truncate.ensures.spares t) (c.truncate.ensures.since_cut t)

@@ -1,13 +1,13 @@
 -- The item is spelled, and its bytes are added.
 use Rattle.std.proofs.Common.{◌≡◌, ◌∙◌, ◌%◌, ℕ, inl, inr, length, Err, refl, ap, arith}
 use Rattle.std.proofs.Math.Nat.{mod_self}
-use Rattle.blob_device.proofs.Results.{err_of}
 use Rattle.section_manager.specs.declared.journal.Error.TheVariants.{Mem}
 use Rattle.segments.specs.FixedShown.{shown}
 use Rattle.segments.proofs.FixedAdding.{along_nothing, error_is, failed, item_appended, item_overfills, mem_not_full, mem_not_pruned, pruned_not_full}
 use Rattle.segments.proofs.FixedPassing.{guard_ok, guard_on, no_error}
 use Rattle.segments.proofs.FixedWriteLemmas.{are_pages}
 use Rattle.segments.proofs.fixed.Journal.append.Goals as goal
+use Rattle.blob_device.proofs.general.Results.{err_of}
 
 pub append_bytes-requires-clause-whole : goal.append_bytes-requires-clause-whole
 append_bytes-requires-clause-whole g c =

@@ -5,7 +5,6 @@ use Rattle.blob_device.specs.declared.runtime.RError.TheVariants.{OffsetOverflow
 use Rattle.blob_device.specs.Disk.{Key}
 use Rattle.blob_device.specs.Timeline.{disk}
 use Rattle.blob_device.proofs.Moments.{always_now}
-use Rattle.blob_device.proofs.Results.{err_of}
 use Rattle.sealed_pages.specs.Buffer as pages
 use Rattle.sealed_pages.specs.Buffer.{extent, bytes_of, IsSealed}
 use Rattle.sealed_pages.specs.Entries.{IsOpenAt}
@@ -19,7 +18,6 @@ use Rattle.section_manager.specs.Sections.{section_key, key_of}
 use Rattle.section_manager.specs.declared.journal.Error.{Error}
 use Rattle.section_manager.specs.declared.journal.Error.TheVariants.{Full, Mem}
 use Rattle.section_manager.specs.managing.Managed as managed
-use Rattle.section_manager.proofs.WalkLemmas.{some_same}
 use Rattle.section_manager.proofs.sections.KeyLemmas.{keys_differ}
 use Rattle.section_manager.proofs.sections.LentLemmas.{lent_back}
 use Rattle.segments.specs.FixedFull.{full_or_raised_of}
@@ -33,6 +31,8 @@ use Rattle.segments.proofs.FixedSpared.{bytes_spared}
 use Rattle.segments.proofs.FixedWriteLemmas.{are_pages, bytes_here, size_here}
 use Rattle.segments.proofs.TailLemmas.{appended_tail}
 use Rattle.segments.proofs.fixed.Journal.append_bytes.Goals as goal
+use Rattle.blob_device.proofs.general.Options.{some_same}
+use Rattle.blob_device.proofs.general.Results.{err_of}
 
 pub put-requires-clause-floor : goal.put-requires-clause-floor
 put-requires-clause-floor g c = elim (cases_lt c.args.section (shown c.args.self).sections.floor) [

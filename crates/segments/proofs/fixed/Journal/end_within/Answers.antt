@@ -1,8 +1,8 @@
-use Rattle.blob_device.proofs.Results.{err_of}
 use Rattle.section_manager.specs.managing.Managed.{shown}
 use Rattle.segments.proofs.FixedBoundLemmas.{finds_short, finds_long, finds_pruned}
 use Rattle.segments.proofs.FixedPassing.{no_error}
 use Rattle.segments.proofs.fixed.Journal.end_within.Goals as goal
+use Rattle.blob_device.proofs.general.Results.{err_of}
 
 pub returns-in_err-size : goal.returns-in_err-size
 returns-in_err-size g c = finds_pruned g.S.Seal.seal_of g.A.CodecFixed.SIZE g.D.Device (shown c.args.self.now.manager) c.args.section c.args.end c.from_residual.result c.in_err-size.field-0.0 c.args.dev.now

@@ -2,7 +2,6 @@
 use Rattle.std.proofs.Common.{◌∙◌, ◌*◌, ℕ, Err, length, refl, sym, ap, arith}
 use Rattle.blob_device.specs.Timeline.{disk}
 use Rattle.blob_device.specs.declared.runtime.RError.TheVariants.{InvalidChecksum}
-use Rattle.blob_device.proofs.Results.{err_of}
 use Rattle.sealed_pages.specs.Buffer.{key_of, size_of, bytes_of}
 use Rattle.sealed_pages.specs.Shown.{shown}
 use Rattle.sealed_pages.proofs.EntryLemmas.{reads_more}
@@ -12,16 +11,18 @@ use Rattle.section_manager.specs.Raised.{raised}
 use Rattle.segments.proofs.FixedErrors.{of_buffer, read_fails}
 use Rattle.segments.proofs.FixedItemReads.{no_reads}
 use Rattle.segments.proofs.FixedMemory.{covered_item, told_held, held_covered, missing_most}
-use Rattle.segments.proofs.FixedReadLemmas.{item_within, read_item, short_item}
+use Rattle.segments.proofs.FixedReadLemmas.{read_item, short_item}
 use Rattle.segments.proofs.fixed.Journal.fill_item.Goals as goal
+use Rattle.blob_device.proofs.general.Numbers.{item_ends}
+use Rattle.blob_device.proofs.general.Results.{err_of}
 
 pub overflow_mul-offset : goal.overflow_mul-offset
-overflow_mul-offset g c = omega (arith, item_within g.A.CodecFixed.SIZE (size_of (shown c.args.buffer.now)) c.args.position c.requires.inside, fit_size _ _ _ _ c.args.buffer.now.fit, ap (λ (n : ℕ). c.args.position * n) c.SIZE.ensures)
+overflow_mul-offset g c = omega (arith, item_ends g.A.CodecFixed.SIZE (size_of (shown c.args.buffer.now)) c.args.position c.requires.inside, fit_size _ _ _ _ c.args.buffer.now.fit, ap (λ (n : ℕ). c.args.position * n) c.SIZE.ensures)
 
 pub returns-then-try_read_held : goal.returns-then-try_read_held
 returns-then-try_read_held g c =
     let held = sym c.if-try_read_held.true ∙ told_held (shown c.args.buffer.now) g.A.CodecFixed.SIZE c.args.position (c.args.position * c.SIZE.result) (length c.args.bytes.now) (ap (λ (n : ℕ). c.args.position * n) c.SIZE.ensures) c.requires.room
-    (omega (arith, c.args.buffer.now.fit.begun)) (item_within g.A.CodecFixed.SIZE (size_of (shown c.args.buffer.now)) c.args.position c.requires.inside) c.try_read_held.result c.try_read_held.ensures.held in
+    (omega (arith, c.args.buffer.now.fit.begun)) (item_ends g.A.CodecFixed.SIZE (size_of (shown c.args.buffer.now)) c.args.position c.requires.inside) c.try_read_held.result c.try_read_held.ensures.held in
     record {
       bytes = λ t holds. read_item c.args.buffer.now.page_size c.args.buffer.now.first g.A.CodecFixed.SIZE c.args.position (c.args.position * c.SIZE.result) (length c.args.bytes.now) (ap (λ (n : ℕ). c.args.position * n) c.SIZE.ensures) c.requires.room c.try_read_held.new.buf
           (bytes_of (shown c.args.buffer.now) (disk (g.D.Device.time c.args.dev.now) (key_of (shown c.args.buffer.now))).content) (c.try_read_held.ensures.bytes c.if-try_read_held.true _ (λ _. holds.cache));
@@ -39,7 +40,7 @@ pub returns-in_err-read_at : goal.returns-in_err-read_at
 returns-in_err-read_at g c =
     let e = c.in_err-read_at.field-0.0 in
     let h = c.in_err-read_at.ensures in
-    let within = item_within g.A.CodecFixed.SIZE (size_of (shown c.args.buffer.now)) c.args.position c.requires.inside in
+    let within = item_ends g.A.CodecFixed.SIZE (size_of (shown c.args.buffer.now)) c.args.position c.requires.inside in
     let told = told_held (shown c.args.buffer.now) g.A.CodecFixed.SIZE c.args.position (c.args.position * c.SIZE.result) (length c.args.bytes.now) (ap (λ (n : ℕ). c.args.position * n) c.SIZE.ensures) c.requires.room (omega (arith, c.args.buffer.now.fit.begun)) within c.try_read_held.result c.try_read_held.ensures.held in
     rw (err_of c.from_residual.result _ c.from_residual.ensures.1) record {
       bytes = λ t holds. tt;
@@ -60,7 +61,7 @@ pub returns : goal.returns
 returns g c =
     let h = c.in_ok-read_at.ensures in
     let out = sym c.if-try_read_held.false ∙ told_held (shown c.args.buffer.now) g.A.CodecFixed.SIZE c.args.position (c.args.position * c.SIZE.result) (length c.args.bytes.now) (ap (λ (n : ℕ). c.args.position * n) c.SIZE.ensures) c.requires.room
-    (omega (arith, c.args.buffer.now.fit.begun)) (item_within g.A.CodecFixed.SIZE (size_of (shown c.args.buffer.now)) c.args.position c.requires.inside) c.try_read_held.result c.try_read_held.ensures.held in
+    (omega (arith, c.args.buffer.now.fit.begun)) (item_ends g.A.CodecFixed.SIZE (size_of (shown c.args.buffer.now)) c.args.position c.requires.inside) c.try_read_held.result c.try_read_held.ensures.held in
     record {
       bytes = λ t holds. read_item c.args.buffer.now.page_size c.args.buffer.now.first g.A.CodecFixed.SIZE c.args.position (c.args.position * c.SIZE.result) (length c.try_read_held.new.buf) (ap (λ (n : ℕ). c.args.position * n) c.SIZE.ensures) (c.try_read_held.auto.buf ∙ c.requires.room) c.read_at.new.buf
           (bytes_of (shown c.args.buffer.now) (disk (g.D.Device.time c.args.dev.now) (key_of (shown c.args.buffer.now))).content) (h.bytes t (λ _. holds.cache));

@@ -1,8 +1,8 @@
 use Rattle.std.proofs.Common.{refl, arith}
-use Rattle.blob_device.proofs.Results.{err_of}
 use Rattle.segments.proofs.FixedGettingEnds.{get_unfound, get_past, got}
 use Rattle.segments.proofs.FixedWriteLemmas.{are_pages}
 use Rattle.segments.proofs.fixed.Journal.get.Goals as goal
+use Rattle.blob_device.proofs.general.Results.{err_of}
 
 pub returns-in_err-buffer : goal.returns-in_err-buffer
 returns-in_err-buffer g c =

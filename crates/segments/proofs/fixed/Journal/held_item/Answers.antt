@@ -5,18 +5,19 @@ use Rattle.sealed_pages.specs.Shown.{shown}
 use Rattle.sealed_pages.proofs.memory.Holding.{fit_size}
 use Rattle.segments.specs.FixedItems.{item_at}
 use Rattle.segments.proofs.FixedMemory.{cache_for, told_held}
-use Rattle.segments.proofs.FixedReadLemmas.{item_within, read_item}
+use Rattle.segments.proofs.FixedReadLemmas.{read_item}
 use Rattle.segments.proofs.fixed.Journal.held_item.Goals as goal
+use Rattle.blob_device.proofs.general.Numbers.{item_ends}
 
 pub overflow_mul-offset : goal.overflow_mul-offset
-overflow_mul-offset g c = omega (arith, item_within g.A.CodecFixed.SIZE (size_of (shown c.args.buffer.now)) c.args.position c.requires, fit_size _ _ _ _ c.args.buffer.now.fit, ap (λ (n : ℕ). c.args.position * n) c.SIZE-2.ensures)
+overflow_mul-offset g c = omega (arith, item_ends g.A.CodecFixed.SIZE (size_of (shown c.args.buffer.now)) c.args.position c.requires, fit_size _ _ _ _ c.args.buffer.now.fit, ap (λ (n : ℕ). c.args.position * n) c.SIZE-2.ensures)
 
 pub returns-then-not-try_read_held-clause-none : goal.returns-then-not-try_read_held-clause-none
 returns-then-not-try_read_held-clause-none g c none held content backed =
     let u = c.args.buffer.now in
     let long : length c.as_mut_slice.result.now ≡ g.A.CodecFixed.SIZE = search rules in
     let told = told_held (shown u) g.A.CodecFixed.SIZE c.args.position (c.args.position * c.SIZE-2.result) (length c.as_mut_slice.result.now) (ap (λ (n : ℕ). c.args.position * n) c.SIZE-2.ensures) long
-    (omega (arith, u.fit.begun)) (item_within g.A.CodecFixed.SIZE (size_of (shown u)) c.args.position c.requires) c.try_read_held.result c.try_read_held.ensures.held in
+    (omega (arith, u.fit.begun)) (item_ends g.A.CodecFixed.SIZE (size_of (shown u)) c.args.position c.requires) c.try_read_held.result c.try_read_held.ensures.held in
     let no : c.try_read_held.result ≡ false = search rules in
     absurd (cc (sym no ∙ told ∙ held))
 
@@ -26,7 +27,7 @@ returns-in-Ok-clause-item g c v is =
     let at : c.args.position * c.SIZE-2.result ≡ c.args.position * g.A.CodecFixed.SIZE = ap (λ (n : ℕ). c.args.position * n) c.SIZE-2.ensures in
     let long : length c.as_mut_slice.result.now ≡ g.A.CodecFixed.SIZE = search rules in
     let told = told_held (shown u) g.A.CodecFixed.SIZE c.args.position (c.args.position * c.SIZE-2.result) (length c.as_mut_slice.result.now) at long
-    (omega (arith, u.fit.begun)) (item_within g.A.CodecFixed.SIZE (size_of (shown u)) c.args.position c.requires) c.try_read_held.result c.try_read_held.ensures.held in
+    (omega (arith, u.fit.begun)) (item_ends g.A.CodecFixed.SIZE (size_of (shown u)) c.args.position c.requires) c.try_read_held.result c.try_read_held.ensures.held in
     let yes : c.try_read_held.result ≡ true = search rules in
     let same : c.in-Ok.item ≡ v = cc is in (
       sym told ∙ yes,

@@ -1,6 +1,5 @@
 use Rattle.std.specs.Prelude.{string_bytes}
 use Rattle.std.proofs.Common.{◌/◌, ap, subst}
-use Rattle.blob_device.proofs.Results.{err_of}
 use Rattle.sealed_pages.specs.Buffer.{size_of}
 use Rattle.sealed_pages.specs.Shown as page_blob
 use Rattle.sealed_pages.specs.declared.pages.Pages.{Pages}
@@ -12,6 +11,7 @@ use Rattle.segments.specs.FixedWalking.{walk_of}
 use Rattle.segments.proofs.FixedDrainedEnds.{none_past, ok_unfailed, failed_bounds, failed_cause, drained_bounds, drained_cause}
 use Rattle.segments.proofs.FixedWriteLemmas.{are_pages}
 use Rattle.segments.proofs.fixed.Journal.init_at_most.Goals as goal
+use Rattle.blob_device.proofs.general.Results.{err_of}
 
 pub returns-in_err-journal-clause-bounds : goal.returns-in_err-journal-clause-bounds
 returns-in_err-journal-clause-bounds g c =

@@ -2,7 +2,6 @@ use Rattle.std.proofs.Common.{◌≡◌, Err, ◌∙◌, ap}
 use Rattle.std.specs.Prelude.{string_bytes}
 use Rattle.std.specs.BTreeSet.{contains}
 use Rattle.std.specs.Ordering.{nat_cmp}
-use Rattle.blob_device.proofs.Results.{err_of}
 use Rattle.section_manager.specs.Answers.{seen}
 use Rattle.section_manager.specs.contracts.sealed.PageBlobSectionBuffer.TheImpl.{ghosts}
 use Rattle.section_manager.specs.managing.Managed.{shown}
@@ -14,6 +13,7 @@ use Rattle.sealed_pages.specs.declared.page_blob.PageBlob.{PageBlob}
 use Rattle.segments.proofs.FixedOpens.{opens_none, opens_failed, opens_memory, opens_ok, opens_as}
 use Rattle.segments.proofs.FixedWriteLemmas.{are_pages}
 use Rattle.segments.proofs.fixed.Journal.init_bounded.Goals as goal
+use Rattle.blob_device.proofs.general.Results.{err_of}
 
 pub returns-in_err-manager : goal.returns-in_err-manager
 returns-in_err-manager g c =

@@ -1,6 +1,5 @@
 use Rattle.std.specs.Prelude.{string_bytes}
 use Rattle.std.proofs.Common.{◌%◌, ℕ, List, ◌∙◌, ap, arith}
-use Rattle.blob_device.proofs.Results.{err_of}
 use Rattle.sealed_pages.specs.declared.pages.Pages.{Pages}
 use Rattle.section_manager.specs.Answers.{seen}
 use Rattle.section_manager.specs.Sections.{section_key}
@@ -13,6 +12,7 @@ use Rattle.segments.proofs.FixedBoundLemmas.{whole_whole}
 use Rattle.segments.proofs.FixedBoundsEnds.{cut_unnamed, end_cut, end_cause, unopened_bounds, unopened_cause, opened_bounds, opened_cause, if_ok_on, journal_there, cut_sealed, none_ends, still_moments, moments_tail, opened_tail, entries_tail}
 use Rattle.segments.proofs.FixedWriteLemmas.{are_pages}
 use Rattle.segments.proofs.fixed.Journal.open_at_most.Goals as goal
+use Rattle.blob_device.proofs.general.Results.{err_of}
 
 pub end_within-requires-clause-whole : goal.end_within-requires-clause-whole
 end_within-requires-clause-whole g c = ap (λ (n : ℕ). n % g.A.CodecFixed.SIZE) c.whole_bytes-end.ensures ∙ whole_whole g.A.CodecFixed.SIZE c.args.end g.met.A.CodecFixed.fixed.at_least

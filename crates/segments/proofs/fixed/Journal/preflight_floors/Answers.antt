@@ -8,14 +8,10 @@ use Rattle.std.specs.Ordering.{nat_cmp}
 use Rattle.std.proofs.lemmas.Cmp.{nat_cmp_total}
 use Rattle.std.proofs.lemmas.Map.Iter.{btree_map_turn, iter_end}
 use Rattle.blob_device.specs.Timeline.{disk}
-use Rattle.blob_device.proofs.Results.{err_of}
 use Rattle.sealed_pages.specs.declared.page_blob.PageBlob.{PageBlob}
 use Rattle.sealed_pages.specs.declared.pages.Pages.{Pages}
 use Rattle.section_manager.specs.declared.sealed.AppendFactory.{AppendFactory}
 use Rattle.section_manager.specs.Sections.{Sections}
-use Rattle.section_manager.proofs.sections.CutLemmas.{numbers_of, numbers_push, numbers_shown}
-use Rattle.section_manager.proofs.TurnLemmas.{had_turn}
-use Rattle.section_manager.proofs.WalkLemmas.{none_or_value}
 use Rattle.segments.specs.FixedFloors.{Floors, shown, journal_of}
 use Rattle.segments.specs.FixedLists.{Lists}
 use Rattle.segments.proofs.FixedOpenLemmas.{opened_journal}
@@ -25,6 +21,9 @@ use Rattle.segments.proofs.FixedMarkers.{floors_opening, floors_owing, floors_ma
 use Rattle.segments.proofs.FixedStages.{stage_opened, stage_same, stage_checkable}
 use Rattle.segments.proofs.fixed.Journal.preflight_floors.Given.{Over}
 use Rattle.segments.proofs.fixed.Journal.preflight_floors.Goals as goal
+use Rattle.blob_device.proofs.general.Maps.{had_turn, numbers_of, numbers_push, numbers_shown}
+use Rattle.blob_device.proofs.general.Options.{none_or_value}
+use Rattle.blob_device.proofs.general.Results.{err_of}
 
 abbrev Held : Over → Type 0
 Held g = Sections (AppendFactory g.row.S.Denot) (PageBlob g.row.S.Denot g.S.Seal)

@@ -2,7 +2,6 @@
 use Rattle.std.specs.Prelude.{string_bytes}
 use Rattle.std.proofs.Common.{◌≡◌, ◌<◌, ◌≤◌, ◌∙◌, refl, sym, ap, subst, arith, IsSomeAnd}
 use Rattle.blob_device.specs.Timeline.{disk}
-use Rattle.blob_device.proofs.Results.{err_of}
 use Rattle.sealed_pages.specs.declared.page_blob.PageBlob.{PageBlob}
 use Rattle.sealed_pages.specs.declared.pages.Pages.{Pages}
 use Rattle.section_manager.specs.Sections.{Sections}
@@ -16,6 +15,7 @@ use Rattle.segments.proofs.FixedStages.{stage_opened, stage_same, stage_read, st
 use Rattle.segments.proofs.FixedWriteLemmas.{are_pages}
 use Rattle.segments.proofs.fixed.Journal.preflight_restore.Given.{Over}
 use Rattle.segments.proofs.fixed.Journal.preflight_restore.Goals as goal
+use Rattle.blob_device.proofs.general.Results.{err_of}
 
 abbrev Held : Over → Type 0
 Held g = Sections (AppendFactory g.row.S.Denot) (PageBlob g.row.S.Denot g.S.Seal)

@@ -1,18 +1,16 @@
 use Rattle.std.proofs.Common.{◌≡◌, ◌∙◌, ◌<◌, ◌+◌, ◌*◌, ◌/◌, count_by, take, ◌∷◌, ◌++◌, [], inl, inr, ℕ, List, not, Err, length, get_or, map, sym, ap, subst, below_more, arith}
 use Rattle.std.specs.List.{Contains}
 use Rattle.std.proofs.Math.Seq.{take-length}
-use Rattle.std.proofs.lemmas.Bool.{not-false}
+use Rattle.std.proofs.lemmas.Bool.{cases_Bool, not-false}
 use Rattle.std.proofs.lemmas.List.{map-append, map_more, get_or_default}
 use Rattle.std.proofs.lemmas.List.Elements.{Contains-get_or, Contains-push_cases}
 use Rattle.std.proofs.lemmas.List.Sums.{count_by_more_yes, count_by_more_no}
 use Rattle.blob_device.specs.Disk.{Disk}
-use Rattle.blob_device.proofs.Results.{err_of, err_with}
 use Rattle.blob_device.specs.Timeline.{disk}
 use Rattle.blob_device.specs.declared.runtime.RError.TheVariants.{InvalidChecksum}
 use Rattle.sealed_pages.specs.Buffer.{key_of, bytes_of, IsBacked}
 use Rattle.sealed_pages.specs.Entries.{ReadsAtMost}
 use Rattle.sealed_pages.specs.Shown.{shown}
-use Rattle.sealed_pages.proofs.memory.Holding.{bool_or}
 use Rattle.sealed_pages.proofs.looking.Looking.{unchanged_now, unchanged_then}
 use Rattle.section_manager.specs.declared.journal.Error.TheVariants.{Runtime, Codec, Mem}
 use Rattle.segments.specs.FixedItems.{item_at}
@@ -22,6 +20,7 @@ use Rattle.segments.proofs.FixedErrors.{of_error, read_failed}
 use Rattle.segments.proofs.FixedMemory.{count_within}
 use Rattle.segments.proofs.FixedReadLemmas.{none_next, none_here, reads_one, reads_next, reads_here}
 use Rattle.segments.proofs.fixed.Journal.read_each.Goals as goal
+use Rattle.blob_device.proofs.general.Results.{err_of, err_with}
 
 pub read_into-requires-clause-inside : goal.read_into-requires-clause-inside
 read_into-requires-clause-inside g c = c.requires.inside (get_or c.args.positions.now c.loop-i.i 0) (Contains-get_or c.args.positions.now c.loop-i.i 0 c.loop-i-test.true)
@@ -92,7 +91,7 @@ loop-i-preserved g c =
         | inl before ↦ c.loop-i.invariant.accepted v before
         | inr is ↦ subst (λ (w : g.row.A.Denot). g.A.Codec.accepted w tt) is c.in_ok-item.ensures.reads.accepted
       ];
-      held = elim (bool_or c.in_ok-item.held) [
+      held = elim (cases_Bool c.in_ok-item.held) [
         | inl is_held ↦ (let one : c.from-held_count.result ≡ 1 = rw is_held at c.from-held_count.ensures in omega (arith, one, c.loop-i.invariant.held, count_by_more_yes (is_item_held g.A.CodecFixed.SIZE u) xs i 0 lt (sym c.in_ok-item.ensures.held ∙ is_held)))
         | inr not_held ↦ (let none : c.from-held_count.result ≡ 0 = rw not_held at c.from-held_count.ensures in omega (arith, none, c.loop-i.invariant.held, count_by_more_no (is_item_held g.A.CodecFixed.SIZE u) xs i 0 lt (sym c.in_ok-item.ensures.held ∙ not_held)))
       ];
@@ -128,7 +127,7 @@ returns g c =
     }
 
 pub overflow_add-held_count : goal.overflow_add-held_count
-overflow_add-held_count g c = elim (bool_or c.in_ok-item.held) [
+overflow_add-held_count g c = elim (cases_Bool c.in_ok-item.held) [
   | inl is_held ↦ (let one : c.from-held_count.result ≡ 1 = rw is_held at c.from-held_count.ensures in
       omega (arith, one, c.loop-i.invariant.held, c.well_formed, count_within (is_item_held g.A.CodecFixed.SIZE c.args.buffer.now) c.args.positions.now c.loop-i.i c.loop-i-test.true (sym c.in_ok-item.ensures.held ∙ is_held)))
   | inr not_held ↦ (let none : c.from-held_count.result ≡ 0 = rw not_held at c.from-held_count.ensures in omega (arith, none, c.loop-i.auto.held_count-fits))

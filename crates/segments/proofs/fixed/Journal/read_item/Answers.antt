@@ -1,6 +1,6 @@
-use Rattle.blob_device.proofs.Results.{err_of}
 use Rattle.segments.proofs.FixedItemReads.{reads_as, reads_none}
 use Rattle.segments.proofs.fixed.Journal.read_item.Goals as goal
+use Rattle.blob_device.proofs.general.Results.{err_of}
 
 pub returns-in_err-bytes : goal.returns-in_err-bytes
 returns-in_err-bytes g c = reads_none _ _ _ _ _ _ _ _ _ _ _ (err_of c.from_residual.result _ c.from_residual.ensures.1)

@@ -2,12 +2,12 @@ use Rattle.std.specs.BTreeMap.{get}
 use Rattle.std.specs.Option.{option_copied}
 use Rattle.std.specs.Ordering.{nat_cmp}
 use Rattle.std.proofs.Common.{◌≡◌, ◌∙◌, None, sym, ap}
-use Rattle.blob_device.proofs.Results.{err_of}
 use Rattle.section_manager.specs.managing.Managed.{shown}
 use Rattle.segments.specs.FixedShown as lists
 use Rattle.segments.proofs.FixedBoundLemmas.{measures_none, measures_some, measures_err, measures_pruned, recovers_of}
 use Rattle.segments.proofs.FixedPassing.{no_error}
 use Rattle.segments.proofs.fixed.Journal.recoverable_prefix_len_at_most.Goals as goal
+use Rattle.blob_device.proofs.general.Results.{err_of}
 
 pub returns-in_default : goal.returns-in_default
 returns-in_default g c =

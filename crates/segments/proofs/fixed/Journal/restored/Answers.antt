@@ -2,10 +2,10 @@ use Rattle.std.specs.BTreeSet.{contains}
 use Rattle.std.specs.Ordering.{nat_cmp}
 use Rattle.segments.proofs.FixedRestored.{restores, restores_err}
 use Rattle.segments.proofs.FixedWriteLemmas.{are_pages}
-use Rattle.blob_device.proofs.Results.{err_of}
 use Rattle.segments.specs.FixedShown.{shown}
 use Rattle.std.proofs.Common.{rules}
 use Rattle.segments.proofs.fixed.Journal.restored.Goals as goal
+use Rattle.blob_device.proofs.general.Results.{err_of}
 
 pub truncate_pending_tail-requires-clause-whole : goal.truncate_pending_tail-requires-clause-whole
 truncate_pending_tail-requires-clause-whole g c longer = c.requires.whole

@@ -2,11 +2,11 @@ use Rattle.std.proofs.Common.{refl}
 use Rattle.std.specs.List.{Contains}
 use Rattle.section_manager.specs.contracts.sealed.PageBlobSectionBuffer.TheImpl.{ghosts}
 use Rattle.section_manager.proofs.Seen.{err_seen}
-use Rattle.section_manager.proofs.WalkLemmas.{contains_or_not}
 use Rattle.segments.specs.FixedShown.{shown}
 use Rattle.segments.proofs.FixedSettlingEnds.{settle_failed, settled_all}
 use Rattle.segments.proofs.FixedWriteLemmas.{are_pages}
 use Rattle.segments.proofs.fixed.Journal.sync.Goals as goal
+use Rattle.blob_device.proofs.general.Lists.{contains_or_not}
 
 pub returns-in_err-this : goal.returns-in_err-this
 returns-in_err-this g c =

@@ -1,12 +1,12 @@
 use Rattle.std.proofs.Common.{refl}
 use Rattle.blob_device.proofs.Moments.{always_now}
-use Rattle.blob_device.proofs.Results.{err_of}
 use Rattle.segments.specs.FixedShown.{shown}
 use Rattle.segments.proofs.FixedCutLemmas.{safe_cut}
 use Rattle.segments.proofs.FixedPassing.{guard_on, guard_ok, cut_on, error_back, no_error}
 use Rattle.segments.proofs.FixedTailLemmas.{tail_moments, tail_journal, tail_err}
 use Rattle.segments.proofs.FixedWriteLemmas.{are_pages}
 use Rattle.segments.proofs.fixed.Journal.truncate_pending_tail.Goals as goal
+use Rattle.blob_device.proofs.general.Results.{err_of}
 
 pub truncate_pending-requires-clause-can : goal.truncate_pending-requires-clause-can
 truncate_pending-requires-clause-can g c t u held lt = safe_cut g.S.Seal.seal_of g.A.CodecFixed.SIZE g.D.Device.Tells _ (are_pages g.row.S g.S.Seal g.S.Seal-dict) _ (shown c.args.self) (g.D.Device.opened c.args.dev.now)

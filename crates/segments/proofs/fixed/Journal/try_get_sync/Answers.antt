@@ -3,11 +3,11 @@ use Rattle.sealed_pages.specs.Buffer.{bytes_of}
 use Rattle.sealed_pages.specs.Reads.{IsCacheFor}
 use Rattle.sealed_pages.specs.Shown as page_blob
 use Rattle.sealed_pages.specs.declared.page_blob.PageBlob.{PageBlob}
-use Rattle.section_manager.proofs.Seen.{if_ok_weaker}
-use Rattle.section_manager.proofs.WalkLemmas.{some_same}
 use Rattle.segments.specs.FixedItems.{item_at}
 use Rattle.segments.specs.FixedReading.{is_item_held}
 use Rattle.segments.proofs.fixed.Journal.try_get_sync.Goals as goal
+use Rattle.blob_device.proofs.general.Options.{some_same}
+use Rattle.blob_device.proofs.general.Results.{if_ok_weaker}
 
 pub returns-clause-none : goal.returns-clause-none
 returns-clause-none g c = if_ok_weaker c.held_item.result c.held_item.ensures.none (λ r none is u held from has. (

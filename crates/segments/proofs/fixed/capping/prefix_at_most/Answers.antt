@@ -2,13 +2,13 @@
 use Rattle.std.proofs.Common.{rules, ◌≡◌, ◌∙◌, ◌/◌, ◌-◌, ◌≤◌, ℕ, List, length, min, ap, arith}
 use Rattle.std.proofs.lemmas.Nat.{div_below}
 use Rattle.blob_device.specs.Timeline.{disk}
-use Rattle.blob_device.proofs.Results.{err_of}
 use Rattle.sealed_pages.specs.Buffer.{key_of}
 use Rattle.sealed_pages.specs.Proven.{proven_prefix}
 use Rattle.sealed_pages.specs.SealedPrefix.{pages_in, sealed_from, sealed_prefix}
 use Rattle.sealed_pages.specs.Shown.{shown}
 use Rattle.sealed_pages.proofs.EntryLemmas.{only_read_of, reads_more}
 use Rattle.segments.proofs.fixed.capping.prefix_at_most.Goals as goal
+use Rattle.blob_device.proofs.general.Results.{err_of}
 
 -- from the first page on all of the sealed prefix is proven
 proven_all : (seal : List ℕ → ℕ) (P : ℕ) (c : List ℕ) → 1 ≤ P → proven_prefix seal P c (0 / P) ≡ length (sealed_prefix seal P c)

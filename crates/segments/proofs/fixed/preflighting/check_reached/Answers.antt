@@ -13,12 +13,12 @@ use Rattle.std.proofs.lemmas.Map.Views.{Contains-keys_from_lookup}
 use Rattle.section_manager.specs.declared.journal.Damage.{Damage}
 use Rattle.section_manager.specs.declared.journal.Error.TheVariants.{Corruption}
 use Rattle.section_manager.specs.managing.Managed.{shown}
-use Rattle.section_manager.proofs.sections.CutLemmas.{numbers_of, numbers_push, numbers_shown, same_number}
-use Rattle.section_manager.proofs.TurnLemmas.{had_turn}
-use Rattle.section_manager.proofs.WalkLemmas.{none_or_value}
 use Rattle.segments.specs.FixedLists.{floor_in, section_size}
 use Rattle.segments.proofs.FixedFloorLemmas.{size_is}
 use Rattle.segments.proofs.fixed.preflighting.check_reached.Goals as goal
+use Rattle.blob_device.proofs.general.Maps.{had_turn, numbers_of, numbers_push, numbers_shown}
+use Rattle.blob_device.proofs.general.Numbers.{same_number}
+use Rattle.blob_device.proofs.general.Options.{none_or_value}
 
 -- the floor that a turn yields
 floor_found : (floors : BTreeMap ℕ ℕ) (q f : ℕ) → get nat_cmp floors q ≡ Some f → floor_in floors q ≡ f

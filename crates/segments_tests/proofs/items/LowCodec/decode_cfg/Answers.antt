@@ -1,6 +1,6 @@
 use Rattle.std.proofs.Common.{lit≤, lt_of_lt_of_le, inl, inr}
-use Rattle.blob_device.proofs.Results.{err_of}
 use Rattle.segments_tests.proofs.items.LowCodec.decode_cfg.Goals as goal
+use Rattle.blob_device.proofs.general.Results.{err_of}
 
 pub returns-in_err-number-clause-gives : goal.returns-in_err-number-clause-gives
 returns-in_err-number-clause-gives c v low same =

@@ -1,6 +1,5 @@
 use Rattle.std.proofs.Common.{◌≡◌, ◌∙◌, Err, inl, inr, ap, arith}
 use Rattle.std.proofs.Math.Nat.{mod-one}
-use Rattle.blob_device.proofs.Results.{err_of}
 use Rattle.section_manager.specs.declared.journal.Error.TheVariants.{Mem, ValueTooLarge}
 use Rattle.section_manager.proofs.Seen.{err_same}
 use Rattle.segments.proofs.FixedAdding.{error_is, mem_not_full, mem_not_pruned}
@@ -9,6 +8,7 @@ use Rattle.segments.proofs.FixedWriteLemmas.{are_pages}
 use Rattle.variable_journal.specs.Shown.{shown}
 use Rattle.variable_journal.proofs.AddingLemmas.{added, below_large, not_added, refused, spelled_as}
 use Rattle.variable_journal.proofs.journal.Journal.append.Goals as goal
+use Rattle.blob_device.proofs.general.Results.{err_of}
 
 pub append_bytes-requires-clause-whole : goal.append_bytes-requires-clause-whole
 append_bytes-requires-clause-whole g c = mod-one _

@@ -1,11 +1,11 @@
 use Rattle.std.proofs.Common.{inl, refl}
 use Rattle.blob_device.specs.Timeline.{disk}
-use Rattle.blob_device.proofs.Results.{err_of}
 use Rattle.section_manager.proofs.Seen.{failed_again}
 use Rattle.segments.specs.FixedShown as bytes
 use Rattle.variable_journal.specs.Shown.{shown}
 use Rattle.variable_journal.proofs.SectionLemmas.{framed_again, gone_bytes}
 use Rattle.variable_journal.proofs.journal.Journal.clear.Goals as goal
+use Rattle.blob_device.proofs.general.Results.{err_of}
 
 pub returns-in_err-this : goal.returns-in_err-this
 returns-in_err-this g c =

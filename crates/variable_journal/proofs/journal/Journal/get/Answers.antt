@@ -1,7 +1,6 @@
 use Rattle.std.proofs.Common.{Err, inl, inr, refl, sym, subst}
 use Rattle.blob_device.specs.Disk.{Key}
 use Rattle.blob_device.specs.Timeline.{disk}
-use Rattle.blob_device.proofs.Results.{err_of}
 use Rattle.sealed_pages.specs.Buffer.{IsSealed}
 use Rattle.sealed_pages.specs.Shown as page_blob
 use Rattle.section_manager.proofs.Seen.{err_same}
@@ -11,6 +10,7 @@ use Rattle.segments.proofs.FixedSections.{holds_own, is_held}
 use Rattle.variable_journal.specs.Shown.{config_of, shown}
 use Rattle.variable_journal.proofs.GettingLemmas.{gets_of, section_refused}
 use Rattle.variable_journal.proofs.journal.Journal.get.Goals as goal
+use Rattle.blob_device.proofs.general.Results.{err_of}
 
 pub returns-in_err-buffer : goal.returns-in_err-buffer
 returns-in_err-buffer g c =

@@ -1,6 +1,5 @@
 use Rattle.std.proofs.Common.{◌≡◌, ◌≤◌, [], length, drop, Ok, Err, inl, inr, refl, ap, arith, rules}
 use Rattle.blob_device.specs.Timeline.{disk}
-use Rattle.blob_device.proofs.Results.{err_of}
 use Rattle.value_codec.specs.declared.codec.Error.TheVariants.{InvalidVarint}
 use Rattle.sealed_pages.specs.Buffer.{bytes_of, size_of, IsBacked}
 use Rattle.sealed_pages.specs.Buffer as pages
@@ -13,6 +12,7 @@ use Rattle.variable_journal.specs.Reading.{HasHeader, Measures}
 use Rattle.variable_journal.proofs.LengthLemmas.{past_of_long}
 use Rattle.variable_journal.proofs.ReadingLemmas.{ended, found, measured_at, page_why, past_end, there_length}
 use Rattle.variable_journal.proofs.journal.Journal.header_at.Goals as goal
+use Rattle.blob_device.proofs.general.Results.{err_of}
 
 pub returns-then-left-eq0-clause-reads : goal.returns-then-left-eq0-clause-reads
 returns-then-left-eq0-clause-reads g c =

@@ -1,12 +1,12 @@
 use Rattle.std.proofs.Common.{inl, inr, refl, ◌∙◌, sym}
 use Rattle.std.proofs.lemmas.Bool.{cases_lt}
 use Rattle.blob_device.specs.Timeline.{disk}
-use Rattle.blob_device.proofs.Results.{err_of}
 use Rattle.section_manager.proofs.Seen.{failed_again}
 use Rattle.segments.specs.FixedShown as bytes
 use Rattle.variable_journal.specs.Shown.{shown}
 use Rattle.variable_journal.proofs.SectionLemmas.{framed_again, pruned_bytes}
 use Rattle.variable_journal.proofs.journal.Journal.prune.Goals as goal
+use Rattle.blob_device.proofs.general.Results.{err_of}
 
 pub returns-in_err-bytes : goal.returns-in_err-bytes
 returns-in_err-bytes g c =

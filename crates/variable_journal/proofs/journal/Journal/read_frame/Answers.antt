@@ -1,7 +1,6 @@
 use Rattle.std.proofs.Common.{◌≡◌, ◌∙◌, length, drop, inr, sym, ap, subst, arith, rules}
 use Rattle.std.proofs.lemmas.List.{take_at}
 use Rattle.blob_device.specs.Disk.{Blob, Disk}
-use Rattle.blob_device.proofs.Results.{err_of}
 use Rattle.sealed_pages.specs.Buffer as pages
 use Rattle.sealed_pages.specs.Buffer.{IsBacked}
 use Rattle.sealed_pages.specs.Shown as page_blob
@@ -12,6 +11,7 @@ use Rattle.section_manager.specs.Raised.{raised, raised_codec}
 use Rattle.variable_journal.specs.Reading.{FrameOf, HasHeader}
 use Rattle.variable_journal.proofs.ReadingLemmas.{ended, found, inside_of, item_found, item_there, item_why, page_why}
 use Rattle.variable_journal.proofs.journal.Journal.read_frame.Goals as goal
+use Rattle.blob_device.proofs.general.Results.{err_of}
 
 pub overflow_add-offset : goal.overflow_add-offset
 overflow_add-offset g c = omega (arith, c.in_ok-size.ensures.inside, fit_size _ _ _ _ c.args.buffer.now.fit)

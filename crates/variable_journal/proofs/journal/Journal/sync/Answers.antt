@@ -2,14 +2,14 @@ use Rattle.std.proofs.Common.{inl, inr, refl, ◌∙◌, sym}
 use Rattle.std.specs.Prelude.{Err}
 use Rattle.std.specs.List.{Contains}
 use Rattle.blob_device.specs.Timeline.{disk}
-use Rattle.blob_device.proofs.Results.{err_of}
-use Rattle.section_manager.proofs.WalkLemmas.{contains_or_not}
 use Rattle.section_manager.specs.contracts.sealed.PageBlobSectionBuffer.TheImpl.{ghosts}
 use Rattle.segments.specs.FixedShown as bytes
 use Rattle.segments.proofs.FixedPassing.{guard_ok, guard_on, pruned_on}
 use Rattle.variable_journal.specs.Shown.{shown}
 use Rattle.variable_journal.proofs.SectionLemmas.{framed_again, synced_bytes}
 use Rattle.variable_journal.proofs.journal.Journal.sync.Goals as goal
+use Rattle.blob_device.proofs.general.Lists.{contains_or_not}
+use Rattle.blob_device.proofs.general.Results.{err_of}
 
 pub returns-in_err-this : goal.returns-in_err-this
 returns-in_err-this g c =

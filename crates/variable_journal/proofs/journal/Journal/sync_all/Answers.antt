@@ -1,6 +1,5 @@
 use Rattle.std.proofs.Common.{◌≡◌, ℕ, inl, inr, refl, ◌∙◌, sym}
 use Rattle.blob_device.specs.Timeline.{disk}
-use Rattle.blob_device.proofs.Results.{err_of}
 use Rattle.section_manager.specs.Sections.{IsHeld}
 use Rattle.section_manager.specs.contracts.sealed.PageBlobSectionBuffer.TheImpl.{ghosts}
 use Rattle.section_manager.proofs.Seen.{err_same, failed_again}
@@ -8,6 +7,7 @@ use Rattle.segments.specs.FixedShown as bytes
 use Rattle.variable_journal.specs.Shown.{shown}
 use Rattle.variable_journal.proofs.SectionLemmas.{framed_again, held_or_not, settling_held, synced_bytes, not_held, unsettled_held, no_low}
 use Rattle.variable_journal.proofs.journal.Journal.sync_all.Goals as goal
+use Rattle.blob_device.proofs.general.Results.{err_of}
 
 pub returns-in_err-this : goal.returns-in_err-this
 returns-in_err-this g c =

@@ -1,12 +1,12 @@
 -- One growth after another.
 use Rattle.std.proofs.Common.{◌≡◌, sym, subst, refl, ℕ, Bool, Result, Err}
-use Rattle.blob_device.proofs.Results.{err_of}
-use Rattle.paired.proofs.ValueEnds.{not_at}
 use Rattle.archives.specs.Growing.{GrowEnds}
 use Rattle.archives.specs.declared.error.Error.{Error}
 use Rattle.archives.specs.declared.error.Error.TheVariants.{Mem}
 use Rattle.archives.specs.declared.prunable.growing.Held.{Held}
 use Rattle.archives.proofs.prunable.growing.Held.grown.Goals as goal
+use Rattle.blob_device.proofs.general.Numbers.{not_at}
+use Rattle.blob_device.proofs.general.Results.{err_of}
 
 -- memory was short
 short : {W K : Type 0} (eq : W → W → Bool) (section index : ℕ) (word : W) (old : Held W K) (r : Result (Held W K) Error) → r ≡ Err Mem → GrowEnds eq section index word old r

@@ -1,7 +1,7 @@
-use Rattle.blob_device.proofs.Results.{err_of}
 use Rattle.archives.specs.declared.error.Error.TheVariants.{Mem}
 use Rattle.archives.proofs.SeveralLemmas.{all_none, all_short, all_some, all_unread}
 use Rattle.archives.proofs.prunable.multi.ArchiveMultiArchive.get_all.Goals as goal
+use Rattle.blob_device.proofs.general.Results.{err_of}
 
 pub returns-in_err-entries : goal.returns-in_err-entries
 returns-in_err-entries g c =

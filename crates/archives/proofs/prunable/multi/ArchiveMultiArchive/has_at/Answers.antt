@@ -1,5 +1,4 @@
 use Rattle.std.proofs.Common.{sym, ◌∙◌, ap}
-use Rattle.blob_device.proofs.Results.{err_of}
 use Rattle.archives.specs.Shown.{shown}
 use Rattle.archives.specs.declared.error.Error.TheVariants.{Mem}
 use Rattle.archives.proofs.positions.PositionLemmas.{row_at}
@@ -8,6 +7,7 @@ use Rattle.archives.proofs.SeveralLemmas.{at_found, at_none, at_unread, key_more
 use Rattle.archives.proofs.put.Rows.{section_low}
 use Rattle.archives.proofs.TableLemmas.{other_key, positions_shown, same_key, short_shown}
 use Rattle.archives.proofs.prunable.multi.ArchiveMultiArchive.has_at.Goals as goal
+use Rattle.blob_device.proofs.general.Results.{err_of}
 
 -- ---- no position
 

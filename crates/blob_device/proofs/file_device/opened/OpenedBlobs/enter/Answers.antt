@@ -2,8 +2,8 @@ use Rattle.std.proofs.Common.{◌∙◌, Option, Some, ap}
 use Rattle.blob_device.specs.Disk.{Key, put}
 use Rattle.blob_device.specs.Opened.{Opened}
 use Rattle.blob_device.proofs.ListedLemmas.{list_of, list_of-put, list_of-same}
-use Rattle.blob_device.proofs.Results.{on_ok, on_err}
 use Rattle.blob_device.proofs.file_device.opened.OpenedBlobs.enter.Goals as goal
+use Rattle.blob_device.proofs.general.Results.{on_err, on_ok}
 
 pub returns-clause-ok : goal.returns-clause-ok
 returns-clause-ok c =

@@ -3,9 +3,9 @@ use Rattle.blob_device.specs.declared.memory.history.History.{History}
 use Rattle.blob_device.specs.Change.{Resize, resized}
 use Rattle.blob_device.specs.Calls.{result_of}
 use Rattle.blob_device.specs.Histories.{IsHistory}
-use Rattle.blob_device.proofs.Bytes.{length-resized}
 use Rattle.blob_device.proofs.HistoryLemmas.{history_begun}
 use Rattle.blob_device.proofs.memory.history.History.resize.Goals as goal
+use Rattle.blob_device.specs.Lengths.{length-resized}
 
 pub returns-then-failed : goal.returns-then-failed
 returns-then-failed c b is =

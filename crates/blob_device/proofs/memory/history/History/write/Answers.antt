@@ -2,10 +2,10 @@ use Rattle.std.proofs.Common.{◌≡◌, ◌∙◌, ◌+◌, ◌/◌, ◌∷◌,
 use Rattle.blob_device.specs.declared.memory.history.History.{History}
 use Rattle.blob_device.specs.Change.{written}
 use Rattle.blob_device.specs.Histories.{IsHistory}
-use Rattle.blob_device.proofs.Bytes.{length-written}
 use Rattle.blob_device.proofs.HistoryLemmas.{history_begun, result_write}
-use Rattle.blob_device.proofs.Results.{on_ok}
 use Rattle.blob_device.proofs.memory.history.History.write.Goals as goal
+use Rattle.blob_device.specs.Lengths.{length-written}
+use Rattle.blob_device.proofs.general.Results.{on_ok}
 
 pub returns : goal.returns
 returns c =

@@ -5,8 +5,8 @@ use Rattle.blob_device.specs.Disk.{Key, put}
 use Rattle.blob_device.specs.Tables.{at_key}
 use Rattle.blob_device.specs.Images.{contents}
 use Rattle.blob_device.proofs.Puts.{put_mapped}
-use Rattle.blob_device.proofs.Results.{err_with}
 use Rattle.blob_device.proofs.memory.image.Image.set_blob.Goals as goal
+use Rattle.blob_device.proofs.general.Results.{err_with}
 
 shown : (Key → Option (Vec ℕ Global)) → Key → Option (List ℕ)
 shown f k = option_map (λ v. v.items) (f k)

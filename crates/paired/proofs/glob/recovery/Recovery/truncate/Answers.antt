@@ -1,11 +1,11 @@
 use Rattle.blob_device.specs.Timeline.{disk}
 use Rattle.blob_device.proofs.Moments.{always_now}
-use Rattle.blob_device.proofs.Results.{err_of}
 use Rattle.section_manager.specs.managing.Managed.{shown}
 use Rattle.paired.proofs.CallLemmas.{none_after, truncate_glob, earlier_bytes, one_bytes, one_settled, one_all}
 use Rattle.paired.proofs.FailLemmas.{undamaged}
 use Rattle.paired.proofs.StepLemmas.{truncating_moments}
 use Rattle.paired.proofs.glob.recovery.Recovery.truncate.Goals as goal
+use Rattle.blob_device.proofs.general.Results.{err_of}
 
 pub returns-in_err-this-clause-moments : goal.returns-in_err-this-clause-moments
 returns-in_err-this-clause-moments g c t =

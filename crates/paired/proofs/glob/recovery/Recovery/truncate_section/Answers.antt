@@ -1,12 +1,12 @@
 use Rattle.blob_device.specs.Timeline.{disk}
 use Rattle.blob_device.proofs.Moments.{always_now}
-use Rattle.blob_device.proofs.Results.{err_of}
 use Rattle.section_manager.specs.managing.Managed.{shown}
 use Rattle.paired.proofs.CallLemmas.{none_each, cut_glob, one_bytes, one_settled, one_all}
 use Rattle.paired.proofs.FailLemmas.{undamaged}
 use Rattle.paired.proofs.GlobLemmas.{other_bytes}
 use Rattle.paired.proofs.StepLemmas.{one_moments}
 use Rattle.paired.proofs.glob.recovery.Recovery.truncate_section.Goals as goal
+use Rattle.blob_device.proofs.general.Results.{err_of}
 
 pub returns-in_err-this-clause-moments : goal.returns-in_err-this-clause-moments
 returns-in_err-this-clause-moments g c t =

@@ -5,12 +5,10 @@ use Rattle.std.specs.Ordering.{nat_cmp}
 use Rattle.blob_device.specs.Opened.{reads_of}
 use Rattle.blob_device.specs.Timeline.{disk, Always}
 use Rattle.blob_device.proofs.Moments.{always_start, always_now}
-use Rattle.blob_device.proofs.Results.{err_of}
 use Rattle.sealed_pages.specs.Reading.{Unchanged}
 use Rattle.section_manager.specs.managing.Managed as manager
 use Rattle.section_manager.specs.declared.journal.Error.TheVariants.{Codec, Corruption, ReplayFailed}
 use Rattle.section_manager.specs.Sections.{section_key, IsHeld}
-use Rattle.section_manager.proofs.WalkLemmas.{contains_or_not}
 use Rattle.segments.specs.FixedReplay.{IsDrained}
 use Rattle.segments.specs.FixedShown as fixed
 use Rattle.segments.proofs.FixedWriteLemmas.{are_pages}
@@ -24,7 +22,6 @@ use Rattle.paired.specs.Replaying.{pair_of}
 use Rattle.paired.specs.sighted.Shown as tracked
 use Rattle.paired.proofs.pair.Failing.{no_error, not_both}
 use Rattle.paired.proofs.reconcile.Start.{opening, back_journal, back_proven, ends_of}
-use Rattle.paired.proofs.pair.Marked.{if_ok}
 use Rattle.paired.proofs.pair.Synced.{made, page_setting}
 use Rattle.paired.specs.Pair.{IsMoving}
 use Rattle.paired.proofs.reconcile.Left.{Stage, Left, left_of, left_before, no_stage}
@@ -36,6 +33,8 @@ use Rattle.paired.proofs.reconcile.Errors.{if_err, no_ok, handed_back, handed_on
 use Rattle.paired.proofs.reconcile.Entries.{run_here, markers_readable, drained_of, drained_from, as_back, as_cut, as_trim, as_removed, cut_entry, trim_entry, removed_entry, cut_reads, cut_unread, trim_reads, trim_unread, leaves_reads, doomed_of, notes_of, noted_same}
 use Rattle.paired.proofs.oversized.replaying.Replay.finish_tracked.Goals as goal
 use Rattle.paired.proofs.oversized.replaying.Replay.finish_tracked.Goals.{then-not-self-via-then-not-self, then-not-self-via-else-not-self+then-self}
+use Rattle.blob_device.proofs.general.Lists.{contains_or_not}
+use Rattle.blob_device.proofs.general.Results.{err_of, map_ok}
 
 pub cut_records-requires : goal.cut_records-requires
 cut_records-requires g c =
@@ -762,7 +761,7 @@ returns g c =
       counts = counts_result a e k n o3 f did after.trailing notes q same active none r (λ v. shown g.I.Record.place v) (λ v. refl) says.index says.values says.layout says.synced says.markers says.marked (λ never. (says.still never).1) says.marker_floor;
       settled = settled_result a e k n o3 f did after.trailing notes q same active none r (λ v. shown g.I.Record.place v) says.values;
       index_settled = index_result a e k n o3 f did after.trailing notes q same active none r (λ v. shown g.I.Record.place v) says.index;
-      codec_config = if_ok r _ _ (λ v same_config. same_config ∙ gone.codec_config ∙ trims.codec_config) says.codec_config;
+      codec_config = map_ok r _ _ (λ v same_config. same_config ∙ gone.codec_config ∙ trims.codec_config) says.codec_config;
       moments = λ t. (left t).moments;
       untouched = λ t. (left t).untouched;
       order = λ t. (left t).order;

@@ -1,9 +1,9 @@
 use Rattle.std.proofs.Common.{◌<◌, ◌/◌, arith}
 use Rattle.sealed_pages.specs.Buffer.{size_of}
 use Rattle.sealed_pages.specs.Shown as page_blob
-use Rattle.section_manager.proofs.WalkLemmas.{value_of}
 use Rattle.segments.specs.FixedShown.{shown}
 use Rattle.paired.proofs.oversized.replaying.Replay.tracked.Goals as goal
+use Rattle.blob_device.proofs.general.Options.{value_of}
 
 pub returns-in_err-index-clause-cause : goal.returns-in_err-index-clause-cause
 returns-in_err-index-clause-cause g c =

@@ -1,11 +1,11 @@
 use Rattle.std.proofs.Common.{List, ℕ, Ok, Err, sym, subst}
 use Rattle.blob_device.specs.Timeline.{Always, disk}
-use Rattle.blob_device.proofs.Results.{err_of}
 use Rattle.meta_store.specs.Opening.{NotOpened, Opening, PairOn}
 use Rattle.meta_store.specs.Store.{chosen_by, contents_of, seen}
 use Rattle.paired.specs.sighted.Shown.{marker_format}
 use Rattle.paired.proofs.tracking.Opened.{cause_of, corrupt_of, map_of, refused_of}
 use Rattle.paired.proofs.oversized.tracking.Tracking.init.Goals as goal
+use Rattle.blob_device.proofs.general.Results.{err_of}
 
 pub returns-in_err-metadata-clause-corrupt : goal.returns-in_err-metadata-clause-corrupt
 returns-in_err-metadata-clause-corrupt g c =

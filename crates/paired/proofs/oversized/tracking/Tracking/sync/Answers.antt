@@ -1,11 +1,11 @@
 use Rattle.std.proofs.Common.{ℕ, ◌∙◌, ap}
 use Rattle.value_codec.specs.declared.key.Key8.{Key8}
-use Rattle.blob_device.proofs.Results.{err_of}
 use Rattle.meta_store.specs.Store.{Store, contents_of, seen, shown}
 use Rattle.paired.specs.sighted.Shown.{marker_format}
 use Rattle.paired.proofs.tracking.Lemmas.{synced_contents, synced_entries}
 use Rattle.paired.proofs.tracking.Synced.{failed_cause, failed_full, failed_untouched, synced_full}
 use Rattle.paired.proofs.oversized.tracking.Tracking.sync.Goals as goal
+use Rattle.blob_device.proofs.general.Results.{err_of}
 
 pub returns-in_err-metadata-clause-crashes : goal.returns-in_err-metadata-clause-crashes
 returns-in_err-metadata-clause-crashes g c t synced stands =

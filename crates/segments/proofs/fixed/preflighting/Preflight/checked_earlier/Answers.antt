@@ -3,7 +3,6 @@ use Rattle.std.specs.List.Sorted.{IsStrictlySortedBy}
 use Rattle.std.specs.Ordering.{nat_cmp}
 use Rattle.std.proofs.Common.{◌≡◌, ◌∙◌, ◌+◌, ◌++◌, ◌∷◌, [], ℕ, List, take, get_or, sym, subst, arith}
 use Rattle.std.proofs.lemmas.List.{take_more, take_all}
-use Rattle.blob_device.proofs.Results.{err_of}
 use Rattle.sealed_pages.specs.declared.page_blob.PageBlob.{PageBlob}
 use Rattle.section_manager.specs.Sections.{Sections, IsHeld}
 use Rattle.section_manager.specs.declared.sealed.AppendFactory.{AppendFactory}
@@ -13,6 +12,7 @@ use Rattle.segments.proofs.FixedEarlier.{gone_none, gone_more, gone_past, gone_t
 use Rattle.segments.proofs.fixed.preflighting.Preflight.checked_earlier.Given.{Over}
 use Rattle.segments.proofs.fixed.preflighting.Preflight.checked_earlier.Goals as goal
 use Rattle.segments.proofs.fixed.preflighting.Preflight.checked_earlier.Goals.{then-number-section+in_ok-found, else-number-section}
+use Rattle.blob_device.proofs.general.Results.{err_of}
 
 abbrev Held : Over → Type 0
 Held g = Sections (AppendFactory g.row.S.Denot) (PageBlob g.row.S.Denot g.S.Seal)

@@ -1,6 +1,5 @@
 use Rattle.std.proofs.Common.{◌≡◌, ◌∙◌, ◌/◌, sym, ap, subst, arith}
 use Rattle.blob_device.specs.Timeline.{disk}
-use Rattle.blob_device.proofs.Results.{err_of}
 use Rattle.sealed_pages.specs.declared.page_blob.PageBlob.{PageBlob}
 use Rattle.section_manager.specs.Sections.{Sections, IsOver}
 use Rattle.section_manager.specs.Setting.{Setting}
@@ -11,6 +10,7 @@ use Rattle.segments.proofs.FixedChecking.{looks_err, count_as}
 use Rattle.segments.proofs.FixedTargets.{no_target, target_err, prefix_err, target_found}
 use Rattle.segments.proofs.fixed.preflighting.Preflight.checked_target.Given.{Over}
 use Rattle.segments.proofs.fixed.preflighting.Preflight.checked_target.Goals as goal
+use Rattle.blob_device.proofs.general.Results.{err_of}
 
 abbrev Held : Over → Type 0
 Held g = Sections (AppendFactory g.row.S.Denot) (PageBlob g.row.S.Denot g.S.Seal)

@@ -1,6 +1,5 @@
 use Rattle.std.proofs.Common.{◌≡◌, ◌∙◌, ◌/◌, ◌*◌, ◌<◌, ℕ, inr, refl, sym, ap, arith}
 use Rattle.blob_device.specs.Timeline.{disk}
-use Rattle.blob_device.proofs.Results.{err_of}
 use Rattle.segments.specs.FixedBounds.{whole_of}
 use Rattle.segments.specs.FixedFloors.{shown, journal_of}
 use Rattle.segments.specs.FixedLists.{section_size}
@@ -8,6 +7,7 @@ use Rattle.segments.proofs.FixedBoundLemmas.{size_is}
 use Rattle.segments.proofs.FixedChecking.{looks_partial, whole_looks, adopted_here, named_below, passes_below, boundary_earlier, whole_count, size_small}
 use Rattle.segments.proofs.FixedWriteLemmas.{are_pages}
 use Rattle.segments.proofs.fixed.preflighting.Preflight.checked_whole.Goals as goal
+use Rattle.blob_device.proofs.general.Results.{err_of}
 
 pub returns-in_err-size : goal.returns-in_err-size
 returns-in_err-size g c at bytes done less named had = absurd (omega (arith, c.in_err-size.ensures.guard.0 c.in_err-size.ensures.cause, c.requires.ready.floor))

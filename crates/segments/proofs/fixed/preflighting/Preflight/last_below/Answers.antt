@@ -4,10 +4,10 @@ use Rattle.blob_device.specs.Disk.{Disk}
 use Rattle.sealed_pages.specs.Buffer.{key_of}
 use Rattle.sealed_pages.specs.Shown.{shown}
 use Rattle.sealed_pages.specs.Reads.{IsShort, PassesSize}
-use Rattle.blob_device.proofs.Results.{err_of}
 use Rattle.sealed_pages.proofs.looking.Looking.{unchanged_now, unchanged_start}
 use Rattle.segments.proofs.FixedChecksEnds.{looks_coded, looks_failed, looks_got, looks_since, read_failed_last}
 use Rattle.segments.proofs.fixed.preflighting.Preflight.last_below.Goals as goal
+use Rattle.blob_device.proofs.general.Results.{err_of}
 
 pub refuse-requires-clause-there : goal.refuse-requires-clause-there
 refuse-requires-clause-there g c t = ap (λ (d : Disk). (d (key_of (shown c.args.buffer.now))).there) (unchanged_now (g.D.Device.time c.args.dev.now) (g.D.Device.time c.read_last.new.dev) (c.read_last.ensures.unchanged t)) ∙ (c.requires.adopted t).there

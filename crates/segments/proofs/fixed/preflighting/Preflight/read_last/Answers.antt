@@ -1,11 +1,11 @@
 use Rattle.std.proofs.Common.{◌≡◌, ◌-◌, ◌*◌, ◌+◌, ◌^◌, ◌<◌, ℕ, length, ap, arith}
 use Rattle.blob_device.specs.Timeline.{disk}
-use Rattle.blob_device.proofs.Results.{on_ok}
 use Rattle.sealed_pages.specs.Buffer.{key_of, size_of}
 use Rattle.sealed_pages.specs.Shown.{shown}
 use Rattle.segments.proofs.FixedAdopted.{read_ok, read_adopted, covered_adopted, short_adopted, passes_adopted}
 use Rattle.segments.proofs.FixedFloorLemmas.{whole_end, read_cause}
 use Rattle.segments.proofs.fixed.preflighting.Preflight.read_last.Goals as goal
+use Rattle.blob_device.proofs.general.Results.{on_ok}
 
 pub overflow_mul-items : goal.overflow_mul-items
 overflow_mul-items g c = omega (arith, c.requires.fits, whole_end c.args.items g.A.CodecFixed.SIZE c.requires.some, ap (λ (n : ℕ). (c.args.items - 1) * n) c.SIZE.ensures)

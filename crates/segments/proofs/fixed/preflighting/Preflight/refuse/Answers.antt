@@ -1,7 +1,6 @@
 use Rattle.std.proofs.Common.{◌≡◌, ◌*◌, ℕ, inl, refl, ap, subst, arith}
 use Rattle.std.proofs.lemmas.Nat.{div_below}
 use Rattle.blob_device.specs.Timeline.{disk}
-use Rattle.blob_device.proofs.Results.{err_of}
 use Rattle.sealed_pages.specs.Buffer.{key_of}
 use Rattle.sealed_pages.specs.Shown.{shown}
 use Rattle.section_manager.specs.declared.journal.Damage.{Damage}
@@ -10,6 +9,7 @@ use Rattle.segments.specs.FixedFloors.{IsUnsealed}
 use Rattle.segments.proofs.FixedChecksEnds.{looks_failed}
 use Rattle.segments.proofs.FixedFloorLemmas.{unsealed_less}
 use Rattle.segments.proofs.fixed.preflighting.Preflight.refuse.Goals as goal
+use Rattle.blob_device.proofs.general.Results.{err_of}
 
 pub returns-in_err-kept-clause-looks : goal.returns-in_err-kept-clause-looks
 returns-in_err-kept-clause-looks g c =

@@ -3,11 +3,11 @@ use Rattle.std.specs.Option.{unwrap_or}
 use Rattle.std.proofs.lemmas.Bool.{false_from_ne_true}
 use Rattle.std.specs.BTreeMap.{get, is_at}
 use Rattle.std.specs.Ordering.{nat_cmp}
-use Rattle.blob_device.proofs.Results.{err_of}
-use Rattle.section_manager.proofs.sections.CutLemmas.{same_number}
 use Rattle.segments.proofs.FixedChecksEnds.{floor_failed}
 use Rattle.segments.proofs.FixedFloorLemmas.{floors_have}
 use Rattle.segments.proofs.fixed.preflighting.Preflight.with_floor.Goals as goal
+use Rattle.blob_device.proofs.general.Numbers.{same_number}
+use Rattle.blob_device.proofs.general.Results.{err_of}
 
 -- another section's number is not at this one's place
 apart : (s q : ℕ) → q ≢ s → is_at (nat_cmp s) q ≡ false

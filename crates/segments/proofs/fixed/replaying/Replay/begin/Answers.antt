@@ -11,8 +11,8 @@ use Rattle.segments.specs.FixedStepping.{OnlySections}
 use Rattle.segments.specs.FixedWalking.{walk_of}
 use Rattle.segments.proofs.FixedOpening.{begin_failed, begin_begun, begin_fits, begin_small}
 use Rattle.segments.proofs.FixedErrorSteps.{failed_as}
-use Rattle.segments.proofs.FixedWalks.{some_of}
 use Rattle.segments.proofs.fixed.replaying.Replay.begin.Goals as goal
+use Rattle.blob_device.proofs.general.Options.{some_of}
 
 -- the first position is that of the replay before the call
 abbrev first_at : {F B : Type 0} → Walk F B → ℕ → ℕ

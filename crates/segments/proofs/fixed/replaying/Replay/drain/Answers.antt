@@ -1,13 +1,13 @@
 -- Items are gone over until an error comes, or none is left.
 use Rattle.std.specs.Prelude.{◌≡◌, true, Some, None, Ok, Err}
 use Rattle.std.proofs.Common.{inl, inr, sym, ◌∙◌, ap, subst}
-use Rattle.blob_device.proofs.Results.{err_of}
 use Rattle.section_manager.specs.contracts.sealed.PageBlobSectionBuffer.TheImpl as impl
 use Rattle.segments.specs.FixedShown.{shown}
 use Rattle.segments.specs.FixedWalking.{walk_of}
 use Rattle.segments.specs.declared.fixed.replaying.Replay.{Replay}
 use Rattle.segments.proofs.FixedDrainLemmas.{draining_start, draining_item, draining_none, draining_then, drains_err, drains_end, not_true}
 use Rattle.segments.proofs.fixed.replaying.Replay.drain.Goals as goal
+use Rattle.blob_device.proofs.general.Results.{err_of}
 
 pub items-init : goal.items-init
 items-init g c = draining_start g.S.Seal.seal_of g.A.CodecFixed.SIZE (impl.ghosts g.row.S g.S.Seal g.S.Seal-dict) (λ f. record { page_size = f.pages.page_size; capacity = f.write_buffer; cache_pages = f.pages.cache_pages }) g.A.Codec.spelling g.A.Codec.accepted g.D.Device.Tells (walk_of c.args.self) (g.D.Device.opened c.args.dev.now) (g.D.Device.time c.args.dev.now) (g.D.Device.faults c.args.dev.now) c.requires

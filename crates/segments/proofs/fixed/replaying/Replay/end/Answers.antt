@@ -4,7 +4,6 @@ use Rattle.std.specs.Option.{option_map}
 use Rattle.std.proofs.Common.{refl, sym, ◌∙◌, ap, arith}
 use Rattle.std.proofs.lemmas.Result.{err_from_is_err_and}
 use Rattle.section_manager.specs.declared.journal.Error.TheVariants.{ItemOutOfRange}
-use Rattle.section_manager.proofs.WalkLemmas.{some_same}
 use Rattle.segments.specs.FixedReplay.{Place, Walk}
 use Rattle.segments.specs.FixedWalking.{walk_of, place_of}
 use Rattle.segments.proofs.FixedFilling.{none_some}
@@ -12,6 +11,7 @@ use Rattle.segments.proofs.FixedFills.{back, there, place_small, ends_cut, ends_
 use Rattle.segments.proofs.FixedGoing.{ends_as, if_some_at}
 use Rattle.segments.proofs.FixedOpening.{first_here}
 use Rattle.segments.proofs.fixed.replaying.Replay.end.Goals as goal
+use Rattle.blob_device.proofs.general.Options.{some_same}
 
 false_true : (b : Bool) → b ≡ false → IsTrue b → ⊥
 false_true b off on = cc (off, on)

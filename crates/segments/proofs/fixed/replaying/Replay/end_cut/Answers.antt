@@ -10,8 +10,8 @@ use Rattle.segments.proofs.FixedCutting.{ends_below, cut_failed, cut_ended, cut_
 use Rattle.segments.proofs.FixedOpening.{first_here}
 use Rattle.segments.proofs.FixedErrorSteps.{cut_as}
 use Rattle.segments.proofs.FixedReading.{here, reached_here, floor_refused}
-use Rattle.segments.proofs.FixedWalks.{some_of}
 use Rattle.segments.proofs.fixed.replaying.Replay.end_cut.Goals as goal
+use Rattle.blob_device.proofs.general.Options.{some_of}
 
 pub check_floor-requires : goal.check_floor-requires
 check_floor-requires g c =

@@ -1,16 +1,16 @@
 -- The buffer is lent: taken out, flushed and put back.
 use Rattle.std.proofs.Common.{inl, refl, sym, ◌∙◌, subst, arith}
 use Rattle.blob_device.specs.Disk.{Key}
-use Rattle.blob_device.proofs.Results.{err_of}
 use Rattle.sealed_pages.specs.Entries.{IsOpenAt}
 use Rattle.sealed_pages.specs.Readers.{reading}
 use Rattle.section_manager.specs.managing.Managed as manager
 use Rattle.section_manager.proofs.sections.OverLemmas.{same_key}
 use Rattle.segments.specs.FixedWalking.{walk_of}
 use Rattle.segments.proofs.FixedLentReaders.{reader_untaken, reader_failed, reader_refused, reader_done}
-use Rattle.segments.proofs.FixedWalks.{some_of}
 use Rattle.segments.proofs.FixedWriteLemmas.{are_pages}
 use Rattle.segments.proofs.fixed.replaying.Replay.open_reader.Goals as goal
+use Rattle.blob_device.proofs.general.Options.{some_of}
+use Rattle.blob_device.proofs.general.Results.{err_of}
 
 pub take-requires-clause-over : goal.take-requires-clause-over
 take-requires-clause-over g c = c.requires.over

@@ -9,8 +9,8 @@ use Rattle.segments.proofs.FixedChecking.{count_as}
 use Rattle.segments.proofs.FixedErrorSteps.{cut_as}
 use Rattle.segments.proofs.FixedPassing.{no_error}
 use Rattle.segments.proofs.FixedShortening.{cut_moments, cut_to, walk_lost, walk_shortened, within_here, within_prefix}
-use Rattle.segments.proofs.FixedWalks.{some_of}
 use Rattle.segments.proofs.fixed.replaying.Replay.shorten.Goals as goal
+use Rattle.blob_device.proofs.general.Options.{some_of}
 
 error_at : {e x y : Error} → x ≡ e → IsErrOf {T = Unit {0}} (Err x) y → IsErrOf {T = Unit {0}} (Err e) y
 error_at is bad = cc (is, bad)

@@ -2,10 +2,10 @@
 use Rattle.std.specs.Prelude.{◌≡◌, Bool, false, Option, Some, None, IsSome, is_some, not}
 use Rattle.std.specs.Option.{option_map}
 use Rattle.std.proofs.Common.{refl, sym, ◌∙◌, ap, subst, arith, length-drop}
-use Rattle.blob_device.proofs.Results.{err_of}
 use Rattle.segments.specs.FixedWalking.{walk_of, place_of}
 use Rattle.segments.proofs.FixedStepsOn.{step_unfilled, mid_over, mid_going, mid_stands, mid_last, step_ended, mid_hand, mid_room, step_taken}
 use Rattle.segments.proofs.fixed.replaying.Replay.step.Goals as goal
+use Rattle.blob_device.proofs.general.Results.{err_of}
 
 stands : {A B : Type 0} (f : A → B) (o : Option A) (b : Bool) → is_some o ≡ not b → b ≡ false → IsSome (option_map f o)
 stands f None b is off = absurd (cc (is, off))

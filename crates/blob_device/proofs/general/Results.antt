@@ -1,5 +1,5 @@
 -- What holds of a result by its variant.
-use Rattle.std.proofs.Common.{◌≡◌, Result, Ok, Err, OnOk, OnErr, IfOk, IsErrAnd, ap}
+use Rattle.std.proofs.Common.{Err, IfOk, IsErrAnd, Ok, OnErr, OnOk, Result, ap, ◌≡◌}
 use Rattle.std.specs.Result.{result_ok}
 
 pub on_err : {T E : Type 0} {P Q : Type 0} (r : Result T E) → (P → Q) → OnErr r P → OnErr r Q
@@ -39,3 +39,16 @@ pub err_like : {T E F : Type 0} {P Q : Type 0} (r : Result T E) (q : Result T F)
 err_like (Ok v) q same f p = tt
 err_like (Err e) (Ok v) same f p = absurd (cc same)
 err_like (Err e) (Err x) same f p = f p
+
+-- what holds of an answer
+pub map_ok : {T E : Type 0} (r : Result T E) (A B : T → Type 0) → ((v : T) → A v → B v) → IfOk r A → IfOk r B
+map_ok (Ok v) A B f has = f v has
+map_ok (Err e) A B f has = has
+
+pub both_ok : {T E : Type 0} (r : Result T E) (A B : T → Type 0) → IfOk r A → IfOk r B → IfOk r (λ v. A v × B v)
+both_ok (Ok v) A B a b = (a, b)
+both_ok (Err e) A B a b = a
+
+pub if_ok_weaker : {T E : Type 0} {P Q : T → Type 0} (r : Result T E) → IfOk r P → ((v : T) → P v → Q v) → IfOk r Q
+if_ok_weaker (Ok v) has weaker = weaker v has
+if_ok_weaker (Err e) has weaker = tt
