@@ -4,12 +4,12 @@ use Rattle.blob_device.specs.Disk.{Key, Blob, Disk, settled_at}
 use Rattle.blob_device.specs.Change.{Make, Write, Settle, written}
 use Rattle.blob_device.specs.Timeline.{Timeline, disk, Passes, Always, OnlyAt}
 use Rattle.blob_device.specs.Keeps.{Stays}
-use Rattle.blob_device.proofs.Moments.{always_weaker, ok_blob}
-use Rattle.blob_device.proofs.Bytes.{written_end}
+use Rattle.blob_device.specs.lemmas.Moments.{always_weaker, ok_blob}
+use Rattle.blob_device.specs.lemmas.Bytes.{written_end}
 use Rattle.blob_device.proofs.KeepsLemmas.{keeps_all}
 use Rattle.blob_device.proofs.StaysLemmas.{stays_crash}
 use Rattle.blob_device.specs.Opened.{Opened, OpenedList, entered, updated, with_len, PartlyGrown}
-use Rattle.blob_device.proofs.OpenedLemmas.{entered_other, updated_other}
+use Rattle.blob_device.specs.lemmas.Opened.{entered_other, updated_other}
 use Rattle.append_log.specs.Appended.{Holds, LeavesFirst}
 
 pub leaves : {a b : Timeline} {k : Key} {from : Disk} {kept : List ℕ} {most : ℕ} → Always a b (OnlyAt k from (Stays kept most)) → Always a b (OnlyAt k from (LeavesFirst kept most))

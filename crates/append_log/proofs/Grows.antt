@@ -4,8 +4,8 @@ use Rattle.std.proofs.lemmas.List.{take_more, append-nil}
 use Rattle.std.specs.declared.alloc.Global.{Global}
 use Rattle.blob_device.specs.Disk.{Key}
 use Rattle.blob_device.specs.Timeline.{Timeline, disk, Always, OnlyAt, Stretches}
-use Rattle.blob_device.proofs.Moments.{always_weaker, always_now}
-use Rattle.blob_device.proofs.Marks.{stretches_start, stretches_push}
+use Rattle.blob_device.specs.lemmas.Moments.{always_weaker, always_now}
+use Rattle.blob_device.specs.lemmas.Marks.{stretches_start, stretches_push}
 use Rattle.append_log.specs.Appended.{Holds, LeavesFirst, joined, grown, Appending, Grown}
 
 joined-push : (rs : List (Vec ℕ Global)) (r : Vec ℕ Global) → joined (rs ++ r ∷ []) ≡ joined rs ++ r.items

@@ -3,7 +3,7 @@ use Rattle.std.proofs.Common.{ℕ, [], Ok, sym, subst, cond}
 use Rattle.blob_device.specs.Change.{Make}
 use Rattle.blob_device.specs.Disk.{Key, Blob}
 use Rattle.blob_device.specs.Timeline.{Timeline, disk, Passes}
-use Rattle.blob_device.proofs.Moments.{ok_blob}
+use Rattle.blob_device.specs.lemmas.Moments.{ok_blob}
 use Rattle.append_log.specs.Appended.{Holds}
 use Rattle.append_log.proofs.AppendedLemmas.{holds_settled}
 

@@ -6,7 +6,7 @@ use Rattle.blob_device.specs.Footprint.{NoBound}
 use Rattle.blob_device.specs.Timeline.{disk}
 use Rattle.blob_device.specs.declared.device.Device as device
 use Rattle.blob_device.specs.declared.runtime.RError.TheVariants as runtime
-use Rattle.blob_device.proofs.FootprintLemmas.{footprint_none}
+use Rattle.blob_device.specs.lemmas.Footprint.{footprint_none}
 use Rattle.meta_store.specs.declared.error.Error.TheVariants as metadata
 use Rattle.section_manager.specs.declared.journal.Error.TheVariants as journal
 use Rattle.section_manager.specs.declared.sealed.AppendFactory.{AppendFactory}

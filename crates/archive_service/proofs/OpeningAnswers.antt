@@ -10,7 +10,7 @@ use Rattle.blob_device.specs.Timeline.{Always, disk}
 use Rattle.blob_device.specs.declared.device.Device as device
 use Rattle.blob_device.specs.declared.runtime.RError.TheVariants as runtime
 use Rattle.meta_store.specs.declared.error.Error.TheVariants as metadata
-use Rattle.blob_device.proofs.FootprintLemmas.{footprint_wider}
+use Rattle.blob_device.specs.lemmas.Footprint.{footprint_wider}
 use Rattle.meta_store.proofs.Uses.{IsReadable}
 use Rattle.section_manager.specs.Sections.{section_key}
 use Rattle.section_manager.specs.declared.journal.Error.TheVariants as journal

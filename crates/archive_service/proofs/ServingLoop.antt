@@ -6,7 +6,7 @@ use Rattle.blob_device.specs.Disk.{NothingPending}
 use Rattle.blob_device.specs.Footprint.{AtMostBoth, Footprint, NoBound}
 use Rattle.blob_device.specs.Timeline.{Timeline, disk, Always}
 use Rattle.blob_device.specs.declared.device.Device as device
-use Rattle.blob_device.proofs.FootprintLemmas.{footprint_then, footprint_wider}
+use Rattle.blob_device.specs.lemmas.Footprint.{footprint_then, footprint_wider}
 use Rattle.sealed_pages.specs.Reading.{Unchanged}
 use Rattle.paired.specs.Opening.{as_read}
 use Rattle.archives.specs.Changes.{Asked, Replied}

@@ -23,7 +23,7 @@ use Rattle.paired.specs.Pair.{length_of, list_of, records_of}
 use Rattle.paired.specs.Records as stored
 use Rattle.paired.proofs.pair.Reads.{index_size}
 use Rattle.paired.proofs.reconcile.Entries.{markers_readable}
-use Rattle.paired.proofs.RecordLemmas.{length-records}
+use Rattle.paired.specs.lemmas.Records.{length-records}
 use Rattle.archives.specs.Archives.{IsArchive, IsSoundArchive, filing_of, state_of}
 use Rattle.archives.specs.Changes.{Asked, Replied, outcome}
 use Rattle.archives.specs.Commands.{Reopen}

@@ -9,7 +9,7 @@ use Rattle.blob_device.specs.Footprint.{Footprint, NoBound}
 use Rattle.blob_device.specs.Opened.{OpenedList}
 use Rattle.blob_device.specs.Timeline.{Always, Timeline, disk}
 use Rattle.blob_device.specs.declared.device.Device as device
-use Rattle.blob_device.proofs.Moments.{always_now, always_weaker}
+use Rattle.blob_device.specs.lemmas.Moments.{always_now, always_weaker}
 use Rattle.meta_store.specs.Blobs.{blob_of, bytes_of}
 use Rattle.meta_store.specs.Crashes as metadata_crash
 use Rattle.meta_store.proofs.Sealing.{empty_absent}

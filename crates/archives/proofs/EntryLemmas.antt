@@ -5,8 +5,8 @@ use Rattle.blob_device.specs.Footprint.{Footprint, NoBound, SameElsewhere}
 use Rattle.blob_device.specs.Opened.{Opened, reads_of}
 use Rattle.blob_device.specs.Timeline.{disk}
 use Rattle.blob_device.specs.declared.device.Device as device
-use Rattle.blob_device.proofs.FootprintLemmas.{footprint_wider}
-use Rattle.blob_device.proofs.Moments.{always_weaker}
+use Rattle.blob_device.specs.lemmas.Footprint.{footprint_wider}
+use Rattle.blob_device.specs.lemmas.Moments.{always_weaker}
 use Rattle.sealed_pages.specs.Entries.{ReadsAtMost}
 use Rattle.sealed_pages.specs.Reading.{Unchanged}
 use Rattle.sealed_pages.specs.declared.page_blob.PageBlob.{PageBlob}

@@ -29,7 +29,7 @@ use Rattle.paired.specs.Records.{is_sound}
 use Rattle.paired.proofs.FrameLemmas.{length-bytes_at, length-frame}
 use Rattle.paired.proofs.KeptLemmas.{sound_parts}
 use Rattle.paired.proofs.pair.Reads.{index_size}
-use Rattle.paired.proofs.RecordLemmas.{length-records}
+use Rattle.paired.specs.lemmas.Records.{length-records}
 use Rattle.archives.specs.Archives.{Archive, IsArchive, IsSoundArchive, filing_of, state_of}
 use Rattle.archives.specs.Filing.{Filing, filed}
 use Rattle.archives.specs.Machine.{section_of}

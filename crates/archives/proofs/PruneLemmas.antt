@@ -16,7 +16,7 @@ use Rattle.paired.specs.glob.Sections as glob
 use Rattle.paired.specs.Kept.{Layout, marker_of}
 use Rattle.paired.specs.Pair.{AreMarkers, HasNoBytes, IsPair, Pair, length_of, list_of, records_of, synced_length, IsSafeOn}
 use Rattle.paired.specs.Records as stored
-use Rattle.paired.proofs.RecordLemmas.{length-records}
+use Rattle.paired.specs.lemmas.Records.{length-records}
 use Rattle.ordinal_store.specs.Numbers.{Set, TakesAway}
 use Rattle.archives.specs.Archives.{Archive, Buffers, IsArchive, IsSoundArchive, LeavesNoForeign, filing_of, state_of}
 use Rattle.archives.specs.Filing.{filed}

@@ -9,8 +9,8 @@ use Rattle.blob_device.specs.Footprint.{Footprint, NoBound}
 use Rattle.blob_device.specs.Opened.{OpenedList}
 use Rattle.blob_device.specs.Timeline.{Always, Timeline, disk}
 use Rattle.blob_device.specs.declared.device.Device as device
-use Rattle.blob_device.proofs.FootprintLemmas.{footprint_none, footprint_wider}
-use Rattle.blob_device.proofs.Moments.{always_start, always_weaker}
+use Rattle.blob_device.specs.lemmas.Footprint.{footprint_none, footprint_wider}
+use Rattle.blob_device.specs.lemmas.Moments.{always_start, always_weaker}
 use Rattle.sealed_pages.specs.declared.page_blob.PageBlob.{PageBlob}
 use Rattle.section_manager.specs.Refusing.{HasFailed}
 use Rattle.section_manager.specs.Sections.{IsHeld, section_key}

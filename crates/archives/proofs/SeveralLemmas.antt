@@ -10,8 +10,8 @@ use Rattle.blob_device.specs.Disk.{Disk, Key}
 use Rattle.blob_device.specs.Footprint.{AtLeastBound, AtMostBoth, Footprint, NoBound}
 use Rattle.blob_device.specs.Timeline.{disk}
 use Rattle.blob_device.specs.declared.device.Device as device
-use Rattle.blob_device.proofs.FootprintLemmas.{footprint_none, footprint_then, footprint_wider}
-use Rattle.blob_device.proofs.Moments.{always_start}
+use Rattle.blob_device.specs.lemmas.Footprint.{footprint_none, footprint_then, footprint_wider}
+use Rattle.blob_device.specs.lemmas.Moments.{always_start}
 use Rattle.sealed_pages.specs.Reading.{Unchanged}
 use Rattle.sealed_pages.specs.declared.page_blob.PageBlob.{PageBlob}
 use Rattle.sealed_pages.proofs.looking.Looking.{unchanged_now, unchanged_then}

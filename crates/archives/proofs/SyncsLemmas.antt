@@ -7,8 +7,8 @@ use Rattle.blob_device.specs.Disk.{Key}
 use Rattle.blob_device.specs.Footprint.{Footprint, NoBound}
 use Rattle.blob_device.specs.Timeline.{Always, disk}
 use Rattle.blob_device.specs.declared.device.Device as device
-use Rattle.blob_device.proofs.FootprintLemmas.{footprint_none, footprint_wider}
-use Rattle.blob_device.proofs.Moments.{always_start}
+use Rattle.blob_device.specs.lemmas.Footprint.{footprint_none, footprint_wider}
+use Rattle.blob_device.specs.lemmas.Moments.{always_start}
 use Rattle.sealed_pages.specs.declared.page_blob.PageBlob.{PageBlob}
 use Rattle.section_manager.specs.declared.sealed.AppendFactory.{AppendFactory}
 use Rattle.section_manager.specs.Lasting.{IsUnsettled}

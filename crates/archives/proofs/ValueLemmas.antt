@@ -5,7 +5,7 @@ use Rattle.blob_device.specs.Footprint.{AtMostBoth, Footprint, NoBound}
 use Rattle.blob_device.specs.Opened.{Opened, reads_of}
 use Rattle.blob_device.specs.Timeline.{disk}
 use Rattle.blob_device.specs.declared.device.Device as device
-use Rattle.blob_device.proofs.FootprintLemmas.{footprint_then, footprint_wider}
+use Rattle.blob_device.specs.lemmas.Footprint.{footprint_then, footprint_wider}
 use Rattle.sealed_pages.specs.Reading.{Unchanged}
 use Rattle.sealed_pages.specs.declared.page_blob.PageBlob.{PageBlob}
 use Rattle.sealed_pages.proofs.looking.Looking.{unchanged_now, unchanged_then}

@@ -8,7 +8,7 @@ use Rattle.blob_device.specs.Opened.{Opened, with_len, reads_of, PartlyGrown}
 use Rattle.blob_device.specs.Calls.{Track, now, entry_of, entry_after, opening, opened_of, timeline_of, all_bytes, IsSound}
 use Rattle.blob_device.specs.Laws.{opened_stands}
 use Rattle.blob_device.specs.Timeline.{disk}
-use Rattle.blob_device.proofs.Puts.{put_self}
+use Rattle.blob_device.specs.lemmas.Puts.{put_self}
 use Rattle.blob_device.specs.Lengths.{length-resized, length-written}
 
 abbrev pub with_reads : ℕ → ℕ → Opened

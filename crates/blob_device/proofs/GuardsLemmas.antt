@@ -5,8 +5,8 @@ use Rattle.blob_device.specs.declared.error.DevError.{DevError}
 use Rattle.blob_device.specs.Disk.{Key, Blob, Disk, MayHold, MayLeave, settled_at, past}
 use Rattle.blob_device.specs.Change.{Change, Make, Write, Resize, Settle, Remove, Look, during, done, FailedTo, written, resized}
 use Rattle.blob_device.specs.Timeline.{Timeline, disk, Passes, Always, OnlyAt}
-use Rattle.blob_device.proofs.Bytes.{outside_push}
-use Rattle.blob_device.proofs.Moments.{always_now, only_start, only_on, ok_blob, err_has}
+use Rattle.blob_device.specs.lemmas.Bytes.{outside_push}
+use Rattle.blob_device.specs.lemmas.Moments.{always_now, only_start, only_on, ok_blob, err_has}
 use Rattle.blob_device.specs.Guards.{Guards, Sealed, Avoids, Makes}
 use Rattle.blob_device.specs.Lengths.{least_push, length-resized, length-written}
 use Rattle.blob_device.specs.Places.{resized_below, written_out}

@@ -1,8 +1,6 @@
 pub mod Building
-pub mod Bytes
 pub mod CrashLemmas
 pub mod EntryLemmas
-pub mod FootprintLemmas
 pub mod general
 pub mod GuardsLemmas
 pub mod HistoryLemmas
@@ -12,14 +10,10 @@ pub mod LengthLemmas
 pub mod ListedLemmas
 pub mod Logged
 pub mod Maps
-pub mod Marks
 pub mod MixedLemmas
-pub mod Moments
 pub mod NamesLemmas
 pub mod Numbers
-pub mod OpenedLemmas
 pub mod Pieces
 pub mod Places
-pub mod Puts
 pub mod Replay
 pub mod StaysLemmas

@@ -6,7 +6,7 @@ use Rattle.blob_device.specs.Disk.{Key, put}
 use Rattle.blob_device.specs.Opened.{Opened, OpenedList, updated}
 use Rattle.blob_device.specs.Tables.{Partitions, at_key}
 use Rattle.blob_device.specs.Listed.{shown}
-use Rattle.blob_device.proofs.Puts.{put_mapped, put_there}
+use Rattle.blob_device.specs.lemmas.Puts.{put_mapped, put_there}
 
 -- the list that a table shows
 abbrev pub list_of : Partitions Entry → OpenedList

@@ -12,7 +12,7 @@ use Rattle.std.proofs.lemmas.Slice.Eq.{bytes_eq-Decides}
 use Rattle.std.proofs.lemmas.Map.Text.{is_eq-slice_cmp}
 use Rattle.std.proofs.lemmas.Bool.{cases_Bool}
 use Rattle.blob_device.specs.Disk.{Key, put}
-use Rattle.blob_device.proofs.Puts.{put_only}
+use Rattle.blob_device.specs.lemmas.Puts.{put_only}
 use Rattle.blob_device.specs.Tables.{at_name, Partitions, at_key, by_bytes}
 
 apart : (bs cs ks : List ℕ) → bytes_eq bs cs ≡ false → bytes_eq bs ks ≡ true → bytes_eq cs ks ≡ false

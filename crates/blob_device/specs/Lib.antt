@@ -33,3 +33,4 @@ pub mod Streams
 pub mod Tables
 pub mod Timeline
 pub mod Tracks
+pub mod lemmas

@@ -3,7 +3,7 @@ use Rattle.std.proofs.Common.{◌≡◌, ℕ, ◌≤◌, max, Option, Some, None
 use Rattle.std.specs.Option.{option_map}
 use Rattle.blob_device.specs.Disk.{Key}
 use Rattle.blob_device.specs.Opened.{Opened, OpenedList, updated, with_len, one_more_read, PartlyGrown}
-use Rattle.blob_device.proofs.Puts.{put_same}
+use Rattle.blob_device.specs.lemmas.Puts.{put_same}
 use Rattle.blob_device_tests.specs.declared.disk.Held.{Held}
 use Rattle.blob_device_tests.specs.Holding.{IsHeld}
 

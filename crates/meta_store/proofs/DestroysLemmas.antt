@@ -7,7 +7,7 @@ use Rattle.blob_device.specs.Opened.{left}
 use Rattle.blob_device.specs.Timeline.{Always, Passes, disk}
 use Rattle.blob_device.specs.declared.device.Device as device
 use Rattle.blob_device.specs.declared.error.DevError.{DevError}
-use Rattle.blob_device.proofs.Moments.{always_weaker, ok_blob}
+use Rattle.blob_device.specs.lemmas.Moments.{always_weaker, ok_blob}
 use Rattle.meta_store.specs.declared.error.Error.{Error}
 use Rattle.meta_store.specs.Blobs.{blob_of, other_side}
 use Rattle.meta_store.specs.Crashes.{KeepsAlone}

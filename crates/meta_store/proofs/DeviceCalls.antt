@@ -4,8 +4,8 @@ use Rattle.blob_device.specs.declared.error.DevError.{DevError}
 use Rattle.blob_device.specs.Disk.{Key, Disk, put}
 use Rattle.blob_device.specs.Change.{Look}
 use Rattle.blob_device.specs.Timeline.{Timeline, disk, Passes, Always}
-use Rattle.blob_device.proofs.Moments.{always_start, always_on, passes_after, ok_blob, err_has}
-use Rattle.blob_device.proofs.Puts.{put_self, put_same}
+use Rattle.blob_device.specs.lemmas.Moments.{always_start, always_on, passes_after, ok_blob, err_has}
+use Rattle.blob_device.specs.lemmas.Puts.{put_self, put_same}
 
 -- no blob changes at any moment
 pub looked : {T : Type 0} (k : Key) (r : Result T DevError) (a b : Timeline) → Passes k Look r a b → Always a b (λ d. d ≡ disk a)

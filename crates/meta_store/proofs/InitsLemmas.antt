@@ -10,7 +10,7 @@ use Rattle.blob_device.specs.declared.device.Device as device
 use Rattle.blob_device.specs.declared.error.DevError.{DevError}
 use Rattle.blob_device.specs.declared.error.DevError.TheVariants.{Fault, Mem}
 use Rattle.blob_device.specs.declared.runtime.RError.TheVariants as runtime
-use Rattle.blob_device.proofs.Moments.{always_start, always_weaker}
+use Rattle.blob_device.specs.lemmas.Moments.{always_start, always_weaker}
 use Rattle.meta_store.specs.declared.copy.Contents.{Contents}
 use Rattle.meta_store.specs.declared.copy.CopyText.{CopyText}
 use Rattle.meta_store.specs.declared.error.Error.{Error}

@@ -3,8 +3,8 @@ use Rattle.std.proofs.Common.{◌≡◌, ◌≢◌, ◌⊎◌, inl, inr, ℕ, Li
 use Rattle.std.specs.Option.{option_map}
 use Rattle.blob_device.specs.Disk.{Key}
 use Rattle.blob_device.specs.Opened.{Opened, OpenedList, left, entered, updated, reads_of, with_len, PartlyGrown}
-use Rattle.blob_device.proofs.Puts.{put_same}
-use Rattle.blob_device.proofs.OpenedLemmas.{left_other, entered_other, updated_open, updated_other}
+use Rattle.blob_device.specs.lemmas.Puts.{put_same}
+use Rattle.blob_device.specs.lemmas.Opened.{left_other, entered_other, updated_open, updated_other}
 use Rattle.meta_store.specs.declared.error.Side.{Side}
 use Rattle.meta_store.specs.declared.error.Side.TheVariants.{Left, Right}
 use Rattle.meta_store.specs.Blobs.{blob_of, other_side}

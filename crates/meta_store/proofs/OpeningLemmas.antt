@@ -4,7 +4,7 @@ use Rattle.blob_device.specs.declared.error.DevError.{DevError}
 use Rattle.blob_device.specs.Disk.{Key, Blob, Disk, settled_at}
 use Rattle.blob_device.specs.Change.{Make, during, done, FailedTo}
 use Rattle.blob_device.specs.Timeline.{Timeline, disk, Passes, Always, OnlyAt}
-use Rattle.blob_device.proofs.Moments.{always_now, always_then, always_weaker, only_start, only_on, ok_blob, err_has}
+use Rattle.blob_device.specs.lemmas.Moments.{always_now, always_then, always_weaker, only_start, only_on, ok_blob, err_has}
 use Rattle.meta_store.specs.declared.error.Side.TheVariants.{Left, Right}
 use Rattle.meta_store.specs.Blobs.{blob_of, read_bytes}
 use Rattle.meta_store.specs.Opening.{Opens, as_before, begun, made, settled, Opening}

@@ -8,7 +8,7 @@ use Rattle.blob_device.specs.Change.{Write, Settle, written}
 use Rattle.blob_device.specs.Timeline.{Timeline, disk, Passes, Always, OnlyAt}
 use Rattle.blob_device.specs.Guards.{Sealed}
 use Rattle.blob_device.proofs.GuardsLemmas.{guards_settled, sealed_start, sealed_on}
-use Rattle.blob_device.proofs.Moments.{always_now, always_start, always_weaker, only_start, only_on, ok_blob}
+use Rattle.blob_device.specs.lemmas.Moments.{always_now, always_start, always_weaker, only_start, only_on, ok_blob}
 use Rattle.meta_store.specs.declared.copy.Contents.{Contents}
 use Rattle.meta_store.specs.declared.copy.CopyText.{CopyText}
 use Rattle.meta_store.specs.declared.copy.CopyText.TheVariants.{Absent}

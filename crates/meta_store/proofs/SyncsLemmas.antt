@@ -8,7 +8,7 @@ use Rattle.blob_device.specs.Opened.{PartlyGrown, updated, with_len}
 use Rattle.blob_device.specs.Timeline.{Always, Passes, disk}
 use Rattle.blob_device.specs.declared.device.Device as device
 use Rattle.blob_device.specs.declared.error.DevError.{DevError}
-use Rattle.blob_device.proofs.Moments.{always_start}
+use Rattle.blob_device.specs.lemmas.Moments.{always_start}
 use Rattle.meta_store.specs.declared.copy.Contents.{Contents}
 use Rattle.meta_store.specs.declared.error.Error.{Error}
 use Rattle.meta_store.specs.declared.error.Error.TheVariants.{Full, Mem}

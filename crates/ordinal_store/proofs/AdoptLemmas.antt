@@ -11,12 +11,12 @@ use Rattle.blob_device.specs.declared.error.DevError.{DevError}
 use Rattle.blob_device.specs.declared.error.DevError.TheVariants as device
 use Rattle.blob_device.specs.declared.runtime.RError.{RError}
 use Rattle.blob_device.specs.declared.runtime.RError.TheVariants as runtime
-use Rattle.blob_device.proofs.Moments.{only_start, only_on, ok_blob, err_has}
-use Rattle.blob_device.proofs.Puts.{put_same, put_other, same_or_other}
+use Rattle.blob_device.specs.lemmas.Moments.{only_start, only_on, ok_blob, err_has}
+use Rattle.blob_device.specs.lemmas.Puts.{put_same, put_other, same_or_other}
 use Rattle.sealed_pages.specs.declared.write_blob.WriteBlob.{WriteBlob}
 use Rattle.sealed_pages.specs.Entries.{IsOpenAt}
 use Rattle.sealed_pages.specs.unsealed.Writing.{Over, blob_key, is_unsettled, shown, size_of}
-use Rattle.sealed_pages.proofs.EntryLemmas.{open_entered}
+use Rattle.sealed_pages.specs.lemmas.Entries.{open_entered}
 use Rattle.ordinal_store.specs.Adopting.{Adopting, IsMaking}
 use Rattle.ordinal_store.specs.Calls.{StartsNoRead}
 use Rattle.ordinal_store.specs.Raised.{passed_on, raised}

@@ -3,10 +3,10 @@ use Rattle.std.specs.Prelude.{◌≡◌, ℕ, ◌+◌, ◌-◌, ◌*◌, ◌/◌
 use Rattle.std.specs.Result.{IsErrAnd}
 use Rattle.std.proofs.Common.{inl, inr, refl, sym, ◌∙◌, ap, subst, arith}
 use Rattle.std.proofs.lemmas.Bool.{cases_lt, lt-ltb, ltb-true}
-use Rattle.blob_device.proofs.Moments.{always_start}
+use Rattle.blob_device.specs.lemmas.Moments.{always_start}
 use Rattle.sealed_pages.specs.declared.write_blob.WriteBlob.{WriteBlob}
 use Rattle.sealed_pages.specs.unsealed.Writing.{blob_key, shown, size_of}
-use Rattle.sealed_pages.proofs.EntryLemmas.{only_read_start}
+use Rattle.sealed_pages.specs.lemmas.Entries.{only_read_start}
 use Rattle.ordinal_store.specs.Adopting.{IsReady}
 use Rattle.ordinal_store.specs.Mending.{is_marked}
 use Rattle.ordinal_store.specs.Reopening.{Checking, IsFirstMarked, IsLeastMarked, Sounding}

@@ -10,7 +10,7 @@ use Rattle.blob_device.specs.Disk.{Key, Outside, longest}
 use Rattle.blob_device.specs.Timeline.{Always, Timeline, disk}
 use Rattle.blob_device.specs.declared.runtime.RError.{RError}
 use Rattle.blob_device.specs.declared.runtime.RError.TheVariants.{Fault, Mem}
-use Rattle.blob_device.proofs.Moments.{always_start, always_now, always_then, always_weaker}
+use Rattle.blob_device.specs.lemmas.Moments.{always_start, always_now, always_then, always_weaker}
 use Rattle.sealed_pages.specs.declared.write_blob.WriteBlob.{WriteBlob}
 use Rattle.sealed_pages.specs.Contents.{AddsOnly, AllSince}
 use Rattle.sealed_pages.specs.Entries.{IsOpenAt, NoReads}

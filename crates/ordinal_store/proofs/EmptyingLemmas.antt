@@ -7,8 +7,8 @@ use Rattle.std.proofs.lemmas.List.{get_or-map, length-map}
 use Rattle.std.proofs.lemmas.Option.{get_or_from_slice_get, slice_get-get_or}
 use Rattle.std.specs.Int.{w64, to_be_bytes}
 use Rattle.std.specs.List.{Contains}
-use Rattle.blob_device.proofs.Moments.{always_start, always_now, always_then, always_weaker, only_start, only_on, ok_blob, err_has}
-use Rattle.blob_device.proofs.Puts.{same_or_other}
+use Rattle.blob_device.specs.lemmas.Moments.{always_start, always_now, always_then, always_weaker, only_start, only_on, ok_blob, err_has}
+use Rattle.blob_device.specs.lemmas.Puts.{same_or_other}
 use Rattle.blob_device.specs.Counts.{Rose}
 use Rattle.blob_device.specs.Change.{Look, Remove}
 use Rattle.blob_device.specs.Disk.{AreNamesIn, Key, Blob, Disk, nothing}

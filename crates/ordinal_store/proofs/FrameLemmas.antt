@@ -1,7 +1,7 @@
 -- A store depends on its own partition alone.
 use Rattle.std.specs.Prelude.{◌≡◌, ℕ, IsSomeAnd, IsTrue}
 use Rattle.std.proofs.Common.{inl, inr, refl, sym, subst}
-use Rattle.blob_device.proofs.Puts.{same_or_other}
+use Rattle.blob_device.specs.lemmas.Puts.{same_or_other}
 use Rattle.blob_device.specs.Disk.{Blob, Disk, Key}
 use Rattle.blob_device.specs.Opened.{OpenedList}
 use Rattle.sealed_pages.specs.unsealed.Writing.{Over, shown}

@@ -2,13 +2,13 @@
 use Rattle.std.proofs.Common.{◌≡◌, ◌⊎◌, inl, inr, ℕ, ◌≤◌, List, [], Bool, true, false, cond, Option, Some, None, Result, Ok, Err, refl, sym, ◌∙◌, ap, subst, arith}
 use Rattle.std.specs.Prelude.{option_map, unwrap_or}
 use Rattle.blob_device.specs.Counts.{Rose}
-use Rattle.blob_device.proofs.Moments.{always_now, always_start}
+use Rattle.blob_device.specs.lemmas.Moments.{always_now, always_start}
 use Rattle.blob_device.specs.Disk.{Disk, Key}
 use Rattle.blob_device.specs.declared.runtime.RError.TheVariants as runtime
 use Rattle.sealed_pages.specs.declared.write_blob.WriteBlob.{WriteBlob}
 use Rattle.sealed_pages.specs.Entries.{ReadsAtMost}
 use Rattle.sealed_pages.specs.Reading.{Unchanged}
-use Rattle.sealed_pages.proofs.EntryLemmas.{reads_start}
+use Rattle.sealed_pages.specs.lemmas.Entries.{reads_start}
 use Rattle.sealed_pages.specs.unsealed.Writing.{blob_key, bytes_of, shown}
 use Rattle.ordinal_store.specs.Calls.{Getting}
 use Rattle.ordinal_store.specs.Slots.{HasValue, IsSealed, part_at, place_of, position_of, section_of, slot_at, slot_size}

@@ -10,7 +10,7 @@ use Rattle.blob_device.specs.Disk.{Key, Outside, longest, settled_at}
 use Rattle.blob_device.specs.Timeline.{Timeline}
 use Rattle.blob_device.specs.declared.runtime.RError.{RError}
 use Rattle.blob_device.specs.declared.runtime.RError.TheVariants as runtime
-use Rattle.blob_device.proofs.Moments.{always_start}
+use Rattle.blob_device.specs.lemmas.Moments.{always_start}
 use Rattle.sealed_pages.specs.declared.write_blob.WriteBlob.{WriteBlob}
 use Rattle.sealed_pages.specs.Contents.{AddsOnly}
 use Rattle.sealed_pages.specs.Entries.{IsOpenAt, NoReads}

@@ -6,7 +6,7 @@ use Rattle.std.specs.Result.{IsErrAnd, IsErrOf}
 use Rattle.std.proofs.Common.{inl, inr, refl, sym, ◌∙◌, ap, subst, arith, rules}
 use Rattle.std.proofs.lemmas.List.{get_or-map, length-map}
 use Rattle.std.proofs.lemmas.Option.{get_or_from_slice_get, none-some, slice_get-get_or}
-use Rattle.blob_device.proofs.Moments.{always_now, always_then, always_weaker}
+use Rattle.blob_device.specs.lemmas.Moments.{always_now, always_then, always_weaker}
 use Rattle.blob_device.specs.Disk.{AreNamesIn, Blob, Disk, Key, longest, nothing}
 use Rattle.blob_device.specs.Timeline.{Always}
 use Rattle.sealed_pages.specs.Reading.{Unchanged}

@@ -7,8 +7,8 @@ use Rattle.blob_device.specs.Change.{written}
 use Rattle.blob_device.specs.Disk.{Blob, Key, Outside}
 use Rattle.blob_device.specs.Opened.{Opened, OpenedList, reads_of}
 use Rattle.blob_device.specs.Timeline.{OnlyAt}
-use Rattle.blob_device.proofs.Moments.{always_now}
-use Rattle.blob_device.proofs.Puts.{same_or_other}
+use Rattle.blob_device.specs.lemmas.Moments.{always_now}
+use Rattle.blob_device.specs.lemmas.Puts.{same_or_other}
 use Rattle.sealed_pages.specs.declared.write_blob.WriteBlob.{WriteBlob}
 use Rattle.sealed_pages.specs.Contents.{AddsOnly}
 use Rattle.sealed_pages.specs.Entries.{IsOpenAt, NoReads}

@@ -4,7 +4,7 @@ use Rattle.std.proofs.Common.{inl, inr, refl, sym, ◌∙◌, ap, subst, arith}
 use Rattle.std.specs.Result.{IsErrAnd}
 use Rattle.std.proofs.Math.Nat.{div-le_self}
 use Rattle.std.proofs.lemmas.Bool.{cases_lt}
-use Rattle.blob_device.proofs.Moments.{always_weaker}
+use Rattle.blob_device.specs.lemmas.Moments.{always_weaker}
 use Rattle.blob_device.specs.Disk.{Blob, Disk, longest}
 use Rattle.blob_device.specs.Timeline.{Always}
 use Rattle.sealed_pages.specs.View.{Within}

@@ -8,7 +8,7 @@ use Rattle.std.proofs.Math.Nat.{mod-lt, mod-add-div}
 use Rattle.blob_device.specs.Change.{written}
 use Rattle.blob_device.specs.Disk.{Disk, Key, Outside, longest, past}
 use Rattle.blob_device.specs.Timeline.{Always, OnlyAt, Timeline, disk}
-use Rattle.blob_device.proofs.Puts.{same_or_other}
+use Rattle.blob_device.specs.lemmas.Puts.{same_or_other}
 use Rattle.sealed_pages.specs.Contents.{AddsOnly}
 use Rattle.sealed_pages.specs.Sparing.{Spares, Sparing}
 use Rattle.sealed_pages.specs.View.{Within}

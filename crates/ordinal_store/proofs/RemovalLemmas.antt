@@ -3,8 +3,8 @@ use Rattle.std.specs.Prelude.{◌≡◌, ◌≢◌, ◌↔◌, ◌⊎◌, ℕ, �
 use Rattle.std.proofs.Common.{inl, inr, refl, sym, ◌∙◌, ap, subst, arith}
 use Rattle.std.specs.Result.{IsErrAnd}
 use Rattle.std.proofs.lemmas.Bool.{cases_eq}
-use Rattle.blob_device.proofs.Moments.{always_start, always_now, always_then, always_weaker}
-use Rattle.blob_device.proofs.Puts.{same_or_other}
+use Rattle.blob_device.specs.lemmas.Moments.{always_start, always_now, always_then, always_weaker}
+use Rattle.blob_device.specs.lemmas.Puts.{same_or_other}
 use Rattle.blob_device.specs.Disk.{Key, Blob, Disk, nothing}
 use Rattle.blob_device.specs.Timeline.{OnlyAt}
 use Rattle.ordinal_store.specs.Calls.{HasFailed, IsBlobOf}

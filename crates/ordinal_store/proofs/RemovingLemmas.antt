@@ -13,9 +13,9 @@ use Rattle.blob_device.specs.Counts.{Rose}
 use Rattle.blob_device.specs.Disk.{Key, Blob, nothing}
 use Rattle.blob_device.specs.Opened.{OpenedList, left}
 use Rattle.blob_device.specs.Timeline.{Timeline, disk, Passes, Always, OnlyAt}
-use Rattle.blob_device.proofs.Moments.{always_now, only_start, only_on, ok_blob, err_has}
-use Rattle.blob_device.proofs.OpenedLemmas.{left_other}
-use Rattle.blob_device.proofs.Puts.{put_same, same_or_other}
+use Rattle.blob_device.specs.lemmas.Moments.{always_now, only_start, only_on, ok_blob, err_has}
+use Rattle.blob_device.specs.lemmas.Opened.{left_other}
+use Rattle.blob_device.specs.lemmas.Puts.{put_same, same_or_other}
 use Rattle.sealed_pages.specs.declared.write_blob.WriteBlob.{WriteBlob}
 use Rattle.sealed_pages.specs.unsealed.Writing.{Over, shown, size_of}
 use Rattle.ordinal_store.specs.declared.ordinal.Error.{Error}

@@ -15,7 +15,7 @@ use Rattle.std.proofs.lemmas.Map.Entries.{lookup_head, lookup_tail, none_below_h
 use Rattle.std.proofs.lemmas.Map.Lookups.{exact_unsigned}
 use Rattle.std.proofs.lemmas.Map.Keys.{IsDistinct-from_sorted, sorted_tail}
 use Rattle.std.proofs.lemmas.Option.{none-some}
-use Rattle.blob_device.proofs.Moments.{always_now, always_start, always_weaker}
+use Rattle.blob_device.specs.lemmas.Moments.{always_now, always_start, always_weaker}
 use Rattle.blob_device.specs.Disk.{Blob, Disk, Key, longest}
 use Rattle.blob_device.specs.Timeline.{Always, OnlyAt}
 use Rattle.sealed_pages.specs.unsealed.Writing.{Over, shown, size_of}
@@ -31,7 +31,7 @@ use Rattle.ordinal_store.specs.Slots.{Layout, blob_of, place_of, position_of, se
 use Rattle.ordinal_store.specs.Stores.{Sight, Store, has, key_of, now}
 use Rattle.ordinal_store.specs.declared.ordinal.Error.{Error}
 use Rattle.ordinal_store.specs.declared.ordinal.Error.TheVariants.{MissingRecord}
-use Rattle.blob_device.proofs.Puts.{same_or_other}
+use Rattle.blob_device.specs.lemmas.Puts.{same_or_other}
 use Rattle.ordinal_store.proofs.PlaceLemmas.{same_truth}
 use Rattle.ordinal_store.proofs.SeatLemmas.{not_true}
 use Rattle.ordinal_store.proofs.StepLemmas.{keys_differ, section_small, stays_start, stays_then}

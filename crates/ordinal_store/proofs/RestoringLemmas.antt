@@ -4,7 +4,7 @@ use Rattle.std.specs.Result.{IsErrAnd}
 use Rattle.std.proofs.Common.{inl, inr, refl, sym, ◌∙◌, ap, subst, arith}
 use Rattle.std.proofs.lemmas.Bool.{cases_lt}
 use Rattle.std.proofs.lemmas.Nat.{div-mul-add}
-use Rattle.blob_device.proofs.Moments.{always_now, always_then, always_weaker}
+use Rattle.blob_device.specs.lemmas.Moments.{always_now, always_then, always_weaker}
 use Rattle.blob_device.specs.Disk.{Disk, Key}
 use Rattle.blob_device.specs.Timeline.{OnlyAt}
 use Rattle.sealed_pages.specs.declared.write_blob.WriteBlob.{WriteBlob}

@@ -6,8 +6,8 @@ use Rattle.blob_device.specs.Change.{Make, during}
 use Rattle.blob_device.specs.Disk.{Blob, Disk, Key, greatest, longest, settled_at}
 use Rattle.blob_device.specs.Lengths.{greatest_push}
 use Rattle.blob_device.specs.Timeline.{OnlyAt}
-use Rattle.blob_device.proofs.Moments.{always_now, always_weaker}
-use Rattle.blob_device.proofs.Puts.{same_or_other}
+use Rattle.blob_device.specs.lemmas.Moments.{always_now, always_weaker}
+use Rattle.blob_device.specs.lemmas.Puts.{same_or_other}
 use Rattle.sealed_pages.specs.declared.write_blob.WriteBlob.{WriteBlob}
 use Rattle.sealed_pages.specs.unsealed.Writing.{bytes_of, shown, size_of}
 use Rattle.ordinal_store.specs.Adopting.{Adopting, IsMaking, IsReady}

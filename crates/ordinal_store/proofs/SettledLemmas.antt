@@ -7,7 +7,7 @@ use Rattle.blob_device.specs.Disk.{Blob, Disk, Key, Outside, longest}
 use Rattle.blob_device.specs.Opened.{OpenedList}
 use Rattle.blob_device.specs.Timeline.{Always, OnlyAt, Timeline, disk}
 use Rattle.blob_device.proofs.GuardsLemmas.{guards_settled}
-use Rattle.blob_device.proofs.Puts.{same_or_other}
+use Rattle.blob_device.specs.lemmas.Puts.{same_or_other}
 use Rattle.sealed_pages.specs.Contents.{AddsOnly}
 use Rattle.sealed_pages.specs.Sparing.{Spares, Sparing}
 use Rattle.sealed_pages.specs.View.{Within}

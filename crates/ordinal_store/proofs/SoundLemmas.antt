@@ -5,13 +5,13 @@ use Rattle.std.proofs.Common.{inl, inr, refl, sym, ◌∙◌, ap, subst, arith, 
 use Rattle.std.proofs.Math.Nat.{add-mul, mul-le-mul_right}
 use Rattle.std.proofs.lemmas.Bool.{cases_lt}
 use Rattle.std.proofs.lemmas.List.{drop-drop}
-use Rattle.blob_device.proofs.Moments.{always_now, always_start, always_then, always_weaker}
+use Rattle.blob_device.specs.lemmas.Moments.{always_now, always_start, always_then, always_weaker}
 use Rattle.blob_device.specs.Disk.{Disk, Key}
 use Rattle.blob_device.specs.Timeline.{Timeline}
 use Rattle.sealed_pages.specs.declared.write_blob.WriteBlob.{WriteBlob}
 use Rattle.sealed_pages.specs.Reading.{OnlyRead, Unchanged}
 use Rattle.sealed_pages.specs.unsealed.Writing.{Over, blob_key, bytes_of, shown, size_of}
-use Rattle.sealed_pages.proofs.EntryLemmas.{only_read_start, only_read_then}
+use Rattle.sealed_pages.specs.lemmas.Entries.{only_read_start, only_read_then}
 use Rattle.ordinal_store.specs.Adopting.{IsReady}
 use Rattle.ordinal_store.specs.Calls.{HasFailed}
 use Rattle.ordinal_store.specs.Reopening.{AreSound, Sounding}

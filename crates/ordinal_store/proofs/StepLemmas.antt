@@ -9,7 +9,7 @@ use Rattle.std.proofs.Math.Nat.{div-le_self}
 use Rattle.blob_device.specs.Disk.{Blob, Disk, Key, greatest}
 use Rattle.blob_device.specs.Opened.{OpenedList}
 use Rattle.blob_device.specs.Timeline.{Always, Timeline, disk}
-use Rattle.blob_device.proofs.Moments.{always_then, always_weaker}
+use Rattle.blob_device.specs.lemmas.Moments.{always_then, always_weaker}
 use Rattle.sealed_pages.specs.declared.write_blob.WriteBlob.{WriteBlob}
 use Rattle.sealed_pages.specs.Entries.{IsOpenAt}
 use Rattle.sealed_pages.specs.unsealed.Writing.{Over, blob_key, bytes_of, is_unsettled, shown, size_of}

@@ -4,7 +4,7 @@ use Rattle.std.proofs.Common.{inl, inr, refl, sym, ◌∙◌, ap, subst, arith}
 use Rattle.std.proofs.lemmas.Bool.{cases_eq}
 use Rattle.blob_device.specs.Disk.{Key, Outside}
 use Rattle.blob_device.specs.Timeline.{OnlyAt}
-use Rattle.blob_device.proofs.Moments.{always_now, always_weaker}
+use Rattle.blob_device.specs.lemmas.Moments.{always_now, always_weaker}
 use Rattle.sealed_pages.specs.declared.write_blob.WriteBlob.{WriteBlob}
 use Rattle.sealed_pages.specs.Contents.{AddsOnly}
 use Rattle.sealed_pages.specs.Entries.{IsOpenAt, NoReads}

@@ -2,7 +2,7 @@
 use Rattle.std.specs.Prelude.{◌≡◌, ◌≢◌, ℕ, ◌≤◌, cond, nat_eq, List, Option, Some, Result, Ok, Err}
 use Rattle.std.specs.Result.{IsErrAnd}
 use Rattle.std.proofs.Common.{inl, inr, refl, sym, ◌∙◌, ap, subst, arith}
-use Rattle.blob_device.proofs.Moments.{always_start, always_weaker}
+use Rattle.blob_device.specs.lemmas.Moments.{always_start, always_weaker}
 use Rattle.blob_device.specs.Disk.{Key}
 use Rattle.blob_device.specs.Timeline.{Always}
 use Rattle.blob_device.specs.declared.runtime.RError.TheVariants as runtime

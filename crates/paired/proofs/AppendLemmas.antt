@@ -17,7 +17,7 @@ use Rattle.blob_device.specs.Disk.{Key, Blob, Disk, Outside}
 use Rattle.blob_device.specs.Change.{Make, done}
 use Rattle.blob_device.specs.Opened.{Opened, OpenedList}
 use Rattle.blob_device.specs.Timeline.{Timeline, disk, OnlyAt}
-use Rattle.blob_device.proofs.Moments.{always_start, always_then, always_weaker, always_now}
+use Rattle.blob_device.specs.lemmas.Moments.{always_start, always_then, always_weaker, always_now}
 use Rattle.sealed_pages.specs.declared.write_blob.WriteBlob.{WriteBlob}
 use Rattle.sealed_pages.specs.Contents.{KeepsAll, AddsOnly}
 use Rattle.sealed_pages.specs.Sparing.{Sparing}

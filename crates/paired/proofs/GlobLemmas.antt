@@ -6,7 +6,7 @@ use Rattle.std.proofs.lemmas.List.{ext_get_or, get_or-take, length-take, length-
 use Rattle.std.proofs.lemmas.List.Elements.{All-from_recursion, All-contains}
 use Rattle.blob_device.specs.Disk.{Key, Blob, Disk, past, settled_at}
 use Rattle.blob_device.specs.Opened.{Opened, OpenedList}
-use Rattle.blob_device.proofs.Puts.{same_or_other}
+use Rattle.blob_device.specs.lemmas.Puts.{same_or_other}
 use Rattle.sealed_pages.specs.declared.write_blob.WriteBlob.{WriteBlob}
 use Rattle.sealed_pages.specs.Cutting.{IsAtRest}
 use Rattle.sealed_pages.specs.Entries.{IsOpenAt, ReadsAtMost}
@@ -19,7 +19,7 @@ use Rattle.section_manager.specs.Setting.{Setting}
 use Rattle.section_manager.specs.Sections.{Sections, key_of, IsHeld, IsSame, SameBounds, IsKeyOf, IsOver}
 use Rattle.section_manager.specs.unsealed.Buffer.{Stands, IsWhole, KeepsBytes, IsOldOrFront, MayKeep, content_of, is_unsettled}
 use Rattle.section_manager.specs.unsealed.Laws.{all_weaker, counted, settled_within, idle_parts, rested, found_again}
-use Rattle.section_manager.proofs.sections.KeyLemmas.{key_injective, keys_differ}
+use Rattle.section_manager.specs.lemmas.Keys.{key_injective, keys_differ}
 use Rattle.section_manager.proofs.sections.OverLemmas.{same_key}
 use Rattle.section_manager.proofs.buffers.UnsealedCalls.{front_itself, whole_at_rest}
 use Rattle.paired.specs.glob.Lasting.{Outlasts}

@@ -12,7 +12,7 @@ use Rattle.paired.specs.Records.{Entry, records, entries_of, is_sound, front, en
 use Rattle.paired.specs.Places.{Follow, end_of}
 use Rattle.paired.specs.Crashes.{IsPrefix, WasThere}
 use Rattle.paired.proofs.FrameLemmas.{length-bytes_at}
-use Rattle.paired.proofs.RecordLemmas.{bytes_at-take, records-front, records-enough, map-same, front-take, front-enough, front-all}
+use Rattle.paired.specs.lemmas.Records.{bytes_at-take, records-front, records-enough, map-same, front-take, front-enough, front-all}
 use Rattle.blob_device.proofs.general.Lists.{all_by, all_take, all_with}
 
 -- bytes in a front stand at the same place in what it is a front of

@@ -6,7 +6,6 @@ pub mod StepLemmas
 pub mod AppendLemmas
 pub mod CallLemmas
 pub mod ReadLemmas
-pub mod RecordLemmas
 pub mod KeptLemmas
 pub mod pair
 pub mod PlainLemmas

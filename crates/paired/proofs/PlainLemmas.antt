@@ -7,7 +7,7 @@ use Rattle.std.proofs.lemmas.List.{append_assoc, append-nil, take-take, length-t
 use Rattle.paired.specs.Frames.{bytes_at}
 use Rattle.segments.specs.FixedItems.{item_count, item_at}
 use Rattle.paired.specs.Records.{Entry, each_below, records, front, is_sound, entry_of}
-use Rattle.paired.proofs.RecordLemmas.{front-take, front-enough, front-all}
+use Rattle.paired.specs.lemmas.Records.{front-take, front-enough, front-all}
 use Rattle.blob_device.proofs.general.Lists.{all_take}
 
 drop-each_below : {X : Type 0} (k n : ℕ) (f : ℕ → X) → k < n → drop k (each_below n f) ≡ f k ∷ drop (k + 1) (each_below n f)

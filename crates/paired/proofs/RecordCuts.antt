@@ -10,7 +10,7 @@ use Rattle.blob_device.specs.declared.runtime.RError.TheVariants.{Fault, Invalid
 use Rattle.blob_device.specs.Disk.{Key, Blob, Disk}
 use Rattle.blob_device.specs.Opened.{OpenedList}
 use Rattle.blob_device.specs.Timeline.{Timeline, disk, Always, OnlyAt, Each}
-use Rattle.blob_device.proofs.Moments.{always_weaker}
+use Rattle.blob_device.specs.lemmas.Moments.{always_weaker}
 use Rattle.sealed_pages.specs.Buffer.{size_of, bytes_of, IsSealed}
 use Rattle.sealed_pages.specs.ChanceSeal.{NoChanceSeal, Sealing}
 use Rattle.sealed_pages.specs.ChanceSeal as chance

@@ -20,7 +20,7 @@ use Rattle.paired.specs.Places.{last_end}
 use Rattle.paired.specs.Records.{each_below, records, front, is_sound}
 use Rattle.paired.specs.Replaying.{Run, marker, HasFailed, HasGiven, is_sound_over, records_over, records_given, IsDue, IsUnbroken, IsGood, IsEnd, IsChecked, GivesRecord, LosesRecords, Sorts}
 use Rattle.paired.proofs.opening.Ends.{front_stops}
-use Rattle.paired.proofs.RecordLemmas.{last_end_at, records-take, length-records}
+use Rattle.paired.specs.lemmas.Records.{last_end_at, records-take, length-records}
 use Rattle.blob_device.proofs.general.Options.{none_or_value, some_same}
 
 below : (m n : ℕ) → m < n → nat_lt m n ≡ true

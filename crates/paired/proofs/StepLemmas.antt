@@ -6,7 +6,7 @@ use Rattle.blob_device.specs.Disk.{Key, Blob, Disk}
 use Rattle.blob_device.specs.Opened.{OpenedList}
 use Rattle.std.specs.Option.{is_some}
 use Rattle.blob_device.specs.Timeline.{Timeline, disk, Always, OnlyAt, Each}
-use Rattle.blob_device.proofs.Moments.{always_weaker}
+use Rattle.blob_device.specs.lemmas.Moments.{always_weaker}
 use Rattle.sealed_pages.specs.Cutting.{IsAtRest}
 use Rattle.sealed_pages.specs.declared.write_blob.WriteBlob.{WriteBlob}
 use Rattle.section_manager.specs.declared.unopened.Unopened.{Unopened}

@@ -3,7 +3,7 @@ use Rattle.std.proofs.Common.{◌≡◌, ◌⊎◌, inl, inr, ℕ, ◌<◌, ◌�
 use Rattle.std.proofs.lemmas.Bool.{cases_lt}
 use Rattle.blob_device.specs.Disk.{Key, Disk}
 use Rattle.blob_device.specs.Timeline.{Timeline, disk, Always}
-use Rattle.blob_device.proofs.Moments.{always_start, always_then, always_weaker, always_now}
+use Rattle.blob_device.specs.lemmas.Moments.{always_start, always_then, always_weaker, always_now}
 use Rattle.paired.specs.Crashes.{InOrder}
 use Rattle.paired.specs.Kept.{Layout}
 use Rattle.paired.specs.Opening.{Relation, IsOrder, RecallsBy}

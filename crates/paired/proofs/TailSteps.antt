@@ -4,8 +4,8 @@ use Rattle.std.specs.Prelude.{nat_le, nat_lt, is_some, min, length}
 use Rattle.std.proofs.lemmas.Bool.{cases_lt, le-leb, leb-true, lt-ltb, ltb-true}
 use Rattle.blob_device.specs.Disk.{Key, Blob, Disk, MayLeave, IsSettled, reads}
 use Rattle.blob_device.specs.Timeline.{Timeline, disk, Always}
-use Rattle.blob_device.proofs.Moments.{always_weaker}
-use Rattle.blob_device.proofs.Puts.{same_or_other}
+use Rattle.blob_device.specs.lemmas.Moments.{always_weaker}
+use Rattle.blob_device.specs.lemmas.Puts.{same_or_other}
 use Rattle.sealed_pages.specs.ChanceSeal as pages
 use Rattle.sealed_pages.specs.SealedPrefix.{sealed_prefix}
 use Rattle.sealed_pages.specs.Buffer.{size_of}
@@ -13,7 +13,7 @@ use Rattle.sealed_pages.specs.Shown.{shown}
 use Rattle.sealed_pages.specs.declared.page_blob.PageBlob.{PageBlob}
 use Rattle.section_manager.specs.Lasting.{IsGoing}
 use Rattle.section_manager.specs.Sections.{section_key, key_of, IsHeld, IsKnown}
-use Rattle.section_manager.proofs.sections.KeyLemmas.{key_injective}
+use Rattle.section_manager.specs.lemmas.Keys.{key_injective}
 use Rattle.segments.specs.FixedBounds.{CuttingTail}
 use Rattle.segments.specs.FixedLists.{Lists}
 use Rattle.section_manager.proofs.buffers.NothingSealed.{nothing_sealed}

@@ -9,7 +9,7 @@ use Rattle.std.proofs.lemmas.List.Elements.{Contains-append_right, Contains-appe
 use Rattle.blob_device.specs.Disk.{Key, Blob, Disk, past}
 use Rattle.blob_device.specs.Opened.{OpenedList}
 use Rattle.blob_device.specs.Timeline.{Timeline, disk, Always, Each}
-use Rattle.blob_device.proofs.Moments.{always_start, always_weaker}
+use Rattle.blob_device.specs.lemmas.Moments.{always_start, always_weaker}
 use Rattle.sealed_pages.specs.declared.page_blob.PageBlob.{PageBlob}
 use Rattle.sealed_pages.specs.declared.write_blob.WriteBlob.{WriteBlob}
 use Rattle.sealed_pages.specs.Reading.{Unchanged}

@@ -2,26 +2,27 @@
 -- (`Frames`, `glob/Sections`). A frame is a value's spelling with its seal behind it. What a crash at any moment of a call leaves of the
 -- sections' blobs is said in the bytes that had settled, and in the contents since, which are all fronts of a section's bytes
 -- (`glob/Lasting`).
-pub mod Frames
-pub mod glob
-pub mod Records
-pub mod Kept
+pub mod CodecShown
 pub mod Crashes
+pub mod Frames
+pub mod Holding
+pub mod Kept
+pub mod Opening
+pub mod OpeningFound
+pub mod OpeningRefusing
+pub mod Openings
 pub mod Pair
-pub mod PairShown
-pub mod PairRefusing
 pub mod PairFaults
+pub mod PairRefusing
+pub mod PairShown
 pub mod PairSync
 pub mod Places
-pub mod Holding
-pub mod Tracked
-pub mod sighted
-pub mod Opening
-pub mod Replaying
-pub mod ReplayShown
-pub mod OpeningRefusing
-pub mod OpeningFound
-pub mod Openings
 pub mod Reconciling
+pub mod Records
+pub mod ReplayShown
+pub mod Replaying
 pub mod Tails
-pub mod CodecShown
+pub mod Tracked
+pub mod glob
+pub mod lemmas
+pub mod sighted

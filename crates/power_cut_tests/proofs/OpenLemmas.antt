@@ -2,7 +2,7 @@
 use Rattle.std.proofs.Common.{◌≡◌, ◌⊎◌, ◌≤◌, inl, inr, arith, ℕ, Option, Some, None, Result, Ok, Err, OnOk, OnErr, IsSome, IsSomeAnd, sym, ap, subst}
 use Rattle.blob_device.specs.Disk.{Key}
 use Rattle.blob_device.specs.Opened.{Opened, OpenedList, updated, PartlyGrown}
-use Rattle.blob_device.proofs.OpenedLemmas.{updated_open}
+use Rattle.blob_device.specs.lemmas.Opened.{updated_open}
 
 -- a blob that is open has room for a read of no byte
 pub room_for_none : (o : Option Opened) → IsSome o → IsSomeAnd o (λ e. 0 ≤ e.len)

@@ -5,7 +5,7 @@ use Rattle.std.proofs.Common.{◌≡◌, refl, sym, ℕ, List, [], ◌∷◌, Op
 use Rattle.blob_device.specs.Footprint.{Footprint, NoBound}
 use Rattle.blob_device.specs.Timeline.{Always, disk}
 use Rattle.blob_device.specs.declared.device.Device as device
-use Rattle.blob_device.proofs.FootprintLemmas.{footprint_none}
+use Rattle.blob_device.specs.lemmas.Footprint.{footprint_none}
 use Rattle.value_codec.specs.Keys.{key8_bytes}
 use Rattle.value_codec.specs.declared.key.Key8.{Key8}
 use Rattle.paired.specs.Opening.{as_read}

@@ -21,7 +21,7 @@ use Rattle.sealed_pages.specs.Unrecovered.{blob_of, IsUnrecovered}
 use Rattle.sealed_pages.specs.Writes.{Appends}
 use Rattle.sealed_pages.proofs.memory.CacheLemmas.{cached_none}
 use Rattle.sealed_pages.proofs.adopted.Clearing.{clears_start}
-use Rattle.sealed_pages.proofs.EntryLemmas.{no_reads_start, open_some}
+use Rattle.sealed_pages.specs.lemmas.Entries.{no_reads_start, open_some}
 use Rattle.sealed_pages.proofs.memory.Holding.{holds_start, holds_more, holds_own, tip_stands, bytes_length}
 use Rattle.sealed_pages.proofs.adopted.KnownLemmas.{known_flushed}
 use Rattle.sealed_pages.proofs.slots.PageCalls.{alone_start}

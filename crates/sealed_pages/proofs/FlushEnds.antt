@@ -15,7 +15,7 @@ use Rattle.sealed_pages.specs.Unrecovered.{blob_of, SparesFront}
 use Rattle.sealed_pages.specs.View.{view, page_at, StandsAt}
 use Rattle.sealed_pages.proofs.memory.CacheLemmas.{cached_none, cached_by}
 use Rattle.sealed_pages.proofs.adopted.Clearing.{clears_start, clears_then}
-use Rattle.sealed_pages.proofs.EntryLemmas.{no_reads_start, no_reads_then, open_some}
+use Rattle.sealed_pages.specs.lemmas.Entries.{no_reads_start, no_reads_then, open_some}
 use Rattle.sealed_pages.proofs.Fronts.{front_start, front_then, front_now}
 use Rattle.sealed_pages.proofs.memory.Holding.{holds_start, tip_stands, bytes_length}
 use Rattle.sealed_pages.proofs.memory.MemoryLemmas.{memory_flushed}

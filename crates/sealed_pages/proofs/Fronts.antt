@@ -8,7 +8,7 @@ use Rattle.blob_device.specs.Disk.{Key, Blob, Disk}
 use Rattle.blob_device.specs.Guards.{Avoids}
 use Rattle.blob_device.specs.Timeline.{Timeline, disk, Passes, Always, OnlyAt}
 use Rattle.blob_device.proofs.GuardsLemmas.{guards_during, guards_done, guards_failed}
-use Rattle.blob_device.proofs.Moments.{always_now, always_weaker, only_start, only_on, ok_blob, err_has}
+use Rattle.blob_device.specs.lemmas.Moments.{always_now, always_weaker, only_start, only_on, ok_blob, err_has}
 use Rattle.sealed_pages.specs.Reading.{Unchanged}
 use Rattle.sealed_pages.specs.Unrecovered.{HasFront, FrontOf, SparesFront}
 use Rattle.sealed_pages.specs.View.{View, view, page_at}

@@ -5,7 +5,6 @@ pub mod CutEnds
 pub mod AppendEnds
 pub mod AdoptEnds
 pub mod FlushEnds
-pub mod EntryLemmas
 pub mod HadLemmas
 pub mod Syncing
 pub mod Reaching

@@ -16,7 +16,7 @@ use Rattle.sealed_pages.specs.Reopening.{OpensAgain}
 use Rattle.sealed_pages.specs.Reads.{IsCovered, IsShort, IsTailShort}
 use Rattle.sealed_pages.specs.SealedPrefix.{adopted_size, data_from, place}
 use Rattle.sealed_pages.specs.View.{view}
-use Rattle.sealed_pages.proofs.EntryLemmas.{only_read_then, only_read_of}
+use Rattle.sealed_pages.specs.lemmas.Entries.{only_read_then, only_read_of}
 use Rattle.sealed_pages.proofs.looking.Looking.{unchanged_now, unchanged_then}
 use Rattle.sealed_pages.proofs.memory.MemoryLemmas.{none_cached}
 use Rattle.sealed_pages.proofs.looking.ReadLemmas.{read_data, same_error}

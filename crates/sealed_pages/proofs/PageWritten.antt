@@ -16,7 +16,7 @@ use Rattle.sealed_pages.specs.Unrecovered.{SparesFront}
 use Rattle.sealed_pages.specs.View.{page_at, slot_at, StandsAt}
 use Rattle.sealed_pages.proofs.adopted.Clearing.{settles_start, settles_write}
 use Rattle.sealed_pages.proofs.slots.CoverLemmas.{page_covers}
-use Rattle.sealed_pages.proofs.EntryLemmas.{no_reads_then, no_reads_open}
+use Rattle.sealed_pages.specs.lemmas.Entries.{no_reads_then, no_reads_open}
 use Rattle.sealed_pages.proofs.Fronts.{front_start, front_write}
 use Rattle.sealed_pages.proofs.HadLemmas.{had_write}
 use Rattle.sealed_pages.proofs.slots.PageCalls.{Begun, page_one, page_two, page_ready, page_leaves, alone_start, alone_on, page_wrote}

@@ -14,7 +14,7 @@ use Rattle.sealed_pages.specs.Unrecovered.{SparesFront}
 use Rattle.sealed_pages.specs.View.{view, page_at, StandsAt}
 use Rattle.sealed_pages.proofs.adopted.Clearing.{settles_start, settles_then}
 use Rattle.sealed_pages.proofs.slots.CoverLemmas.{covers_next}
-use Rattle.sealed_pages.proofs.EntryLemmas.{open_some, no_reads_start, no_reads_then}
+use Rattle.sealed_pages.specs.lemmas.Entries.{open_some, no_reads_start, no_reads_then}
 use Rattle.sealed_pages.proofs.Fronts.{front_start, front_now, front_page, front_then}
 use Rattle.sealed_pages.proofs.slots.PageCalls.{flushed_as, wrote_as, alone_then, wrote_start, wrote_then, flush_start, flush_then, part_stands}
 use Rattle.sealed_pages.proofs.cutting.Truncating.{rose_since}

@@ -6,7 +6,7 @@ use Rattle.blob_device.specs.Disk.{Key, Blob, settled_at}
 use Rattle.blob_device.specs.Timeline.{disk, Passes, Always, OnlyAt}
 use Rattle.blob_device.specs.declared.device.Device as device
 use Rattle.blob_device.specs.declared.error.DevError.{DevError}
-use Rattle.blob_device.proofs.Moments.{ok_blob}
+use Rattle.blob_device.specs.lemmas.Moments.{ok_blob}
 use Rattle.sealed_pages.specs.Buffer.{Adopted, pages_of}
 use Rattle.sealed_pages.specs.ChanceSeal.{Leaves, Sealing}
 use Rattle.sealed_pages.specs.Cutting.{IsAtRest}
@@ -18,7 +18,7 @@ use Rattle.sealed_pages.specs.Unrecovered.{SparesFront}
 use Rattle.sealed_pages.specs.View.{view, page_at, slot_at}
 use Rattle.sealed_pages.proofs.adopted.Adopting.{adopted_kept, torn_inside, torn_other, head_is, all_clean, pages_reach, pages_some, last_page}
 use Rattle.sealed_pages.proofs.adopted.Clearing.{slot_clears, slot_then, slot_settle, both_cleared}
-use Rattle.sealed_pages.proofs.EntryLemmas.{no_reads_then, no_reads_same, no_reads_open, open_same}
+use Rattle.sealed_pages.specs.lemmas.Entries.{no_reads_then, no_reads_same, no_reads_open, open_same}
 use Rattle.sealed_pages.proofs.Fronts.{front_page, front_then, front_settle}
 use Rattle.sealed_pages.proofs.adopted.Keeping.{settle_any, settle_ready, settle_data}
 use Rattle.sealed_pages.proofs.slots.PageCalls.{only_then, alone_on, alone_then}

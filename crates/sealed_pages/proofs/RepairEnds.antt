@@ -13,7 +13,7 @@ use Rattle.sealed_pages.specs.Removals.{Removes}
 use Rattle.sealed_pages.specs.Unrecovered.{blob_of}
 use Rattle.sealed_pages.specs.View.{page_at}
 use Rattle.sealed_pages.proofs.adopted.Clearing.{clears_start, rest_cleared}
-use Rattle.sealed_pages.proofs.EntryLemmas.{no_reads_start, open_some}
+use Rattle.sealed_pages.specs.lemmas.Entries.{no_reads_start, open_some}
 use Rattle.sealed_pages.proofs.Fronts.{front_start}
 use Rattle.sealed_pages.proofs.HadLemmas.{had_rest}
 use Rattle.sealed_pages.proofs.memory.Holding.{holds_start, state_clean}

@@ -10,7 +10,7 @@ use Rattle.blob_device.specs.Timeline.{Passes, Always, OnlyAt, disk}
 use Rattle.blob_device.specs.declared.device.Device as device
 use Rattle.blob_device.specs.declared.error.DevError.{DevError}
 use Rattle.blob_device.specs.declared.runtime.RError.{RError}
-use Rattle.blob_device.proofs.Moments.{ok_blob}
+use Rattle.blob_device.specs.lemmas.Moments.{ok_blob}
 use Rattle.sealed_pages.specs.Buffer.{Buffer, key_of, size_of, flushed_of, bytes_of, Holds, IsBacked, IsSealed, AddsPages}
 use Rattle.sealed_pages.specs.Calls.{FailsBelow}
 use Rattle.sealed_pages.specs.ChanceSeal.{Leaves, Sealing}
@@ -25,7 +25,7 @@ use Rattle.sealed_pages.specs.View.{page_at}
 use Rattle.sealed_pages.specs.Writes.{Syncs}
 use Rattle.sealed_pages.proofs.memory.CacheLemmas.{cached_none}
 use Rattle.sealed_pages.proofs.adopted.Clearing.{clears_start, clears_settle}
-use Rattle.sealed_pages.proofs.EntryLemmas.{no_reads_start, open_some}
+use Rattle.sealed_pages.specs.lemmas.Entries.{no_reads_start, open_some}
 use Rattle.sealed_pages.proofs.Fronts.{front_start, front_settle}
 use Rattle.sealed_pages.proofs.memory.Holding.{holds_start, holds_own, tip_stands, bytes_length}
 use Rattle.sealed_pages.proofs.adopted.Keeping.{settle_data}

@@ -8,7 +8,7 @@ use Rattle.blob_device.specs.Change.{Settle}
 use Rattle.blob_device.specs.Disk.{Key, Blob, past, settled_at, shortest}
 use Rattle.blob_device.specs.Timeline.{Timeline, disk, Passes, OnlyAt}
 use Rattle.blob_device.proofs.GuardsLemmas.{guards_settled, guards_crash, guards_left}
-use Rattle.blob_device.proofs.Moments.{always_now, ok_blob}
+use Rattle.blob_device.specs.lemmas.Moments.{always_now, ok_blob}
 use Rattle.sealed_pages.specs.Buffer.{Buffer, size_of, pages_of, bytes_of, IsBacked, IsSealed}
 use Rattle.sealed_pages.specs.ChanceSeal.{NoChanceSeal, Leaves, Sealing}
 use Rattle.sealed_pages.specs.Contents.{IsHad}

@@ -10,8 +10,8 @@ use Rattle.blob_device.specs.Disk.{Key, Blob, Disk, settled_at, AreNamesIn}
 use Rattle.blob_device.specs.Change.{Make, during}
 use Rattle.blob_device.specs.Opened.{OpenedList}
 use Rattle.blob_device.specs.Timeline.{Timeline, disk, Always, OnlyAt, Each}
-use Rattle.blob_device.proofs.Moments.{always_start, always_then, always_weaker, always_now}
-use Rattle.blob_device.proofs.Puts.{same_or_other}
+use Rattle.blob_device.specs.lemmas.Moments.{always_start, always_then, always_weaker, always_now}
+use Rattle.blob_device.specs.lemmas.Puts.{same_or_other}
 use Rattle.sealed_pages.specs.Reading.{Unchanged}
 use Rattle.section_manager.specs.declared.buffer.SectionBuffer as buffer
 use Rattle.section_manager.specs.declared.journal.Error.{Error}
@@ -23,7 +23,7 @@ use Rattle.section_manager.specs.Entries.{OnlyOwnEntry, StartsNoRead}
 use Rattle.section_manager.specs.Lasting.{IsOpening, IsSettling}
 use Rattle.section_manager.specs.Refusing.{HasFailed, IsForeign}
 use Rattle.section_manager.specs.Sections.{Sections, section_key, key_of, IsHeld, IsKnown, IsSame, SameBounds, IsOver}
-use Rattle.section_manager.proofs.sections.KeyLemmas.{keys_differ}
+use Rattle.section_manager.specs.lemmas.Keys.{keys_differ}
 use Rattle.section_manager.proofs.NumberLemmas.{has_name, name_size, names_number}
 use Rattle.section_manager.proofs.sections.OverLemmas.{same_key}
 use Rattle.blob_device.proofs.general.Lists.{contains_or_not}

@@ -1,5 +1,4 @@
 pub mod buffers
-pub mod Seen
 pub mod sections
 pub mod CountLemmas
 pub mod WalkLemmas

@@ -7,7 +7,7 @@ use Rattle.std.proofs.lemmas.List.{get_or-map, length-map}
 use Rattle.std.proofs.lemmas.List.Elements.{Contains-get_or}
 use Rattle.std.proofs.lemmas.Grind.{get_or_default_zero}
 use Rattle.blob_device.specs.Disk.{Key}
-use Rattle.section_manager.proofs.sections.KeyLemmas.{key_injective}
+use Rattle.section_manager.specs.lemmas.Keys.{key_injective}
 
 pub length-number_name : (n : ℕ) → length (to_be_bytes w64 n) ≡ 8
 length-number_name n = search rules

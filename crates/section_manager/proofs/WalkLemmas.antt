@@ -5,15 +5,15 @@ use Rattle.std.proofs.lemmas.Bool.{cases_eq}
 use Rattle.blob_device.specs.Disk.{Key, Blob, Disk}
 use Rattle.blob_device.specs.Opened.{OpenedList}
 use Rattle.blob_device.specs.Timeline.{Timeline, disk, Always, OnlyAt, Each}
-use Rattle.blob_device.proofs.Moments.{always_start, always_then, always_weaker, always_now}
-use Rattle.blob_device.proofs.Puts.{same_or_other}
+use Rattle.blob_device.specs.lemmas.Moments.{always_start, always_then, always_weaker, always_now}
+use Rattle.blob_device.specs.lemmas.Puts.{same_or_other}
 use Rattle.section_manager.specs.declared.buffer.SectionBuffer as buffer
 use Rattle.section_manager.specs.Entries.{OnlyOwnEntry, StartsNoRead}
 use Rattle.section_manager.specs.Leaving.{Leaves, AllMoments}
 use Rattle.section_manager.specs.Refusing.{IsPruned}
 use Rattle.section_manager.specs.Setting.{Setting}
 use Rattle.section_manager.specs.Sections.{Sections, key_of, IsSame, SameBounds, IsKeyOf, IsOver}
-use Rattle.section_manager.proofs.sections.KeyLemmas.{key_injective}
+use Rattle.section_manager.specs.lemmas.Keys.{key_injective}
 use Rattle.section_manager.proofs.sections.OverLemmas.{same_key}
 use Rattle.blob_device.proofs.general.Options.{has_value, none_or_value, some_same, value_of}
 

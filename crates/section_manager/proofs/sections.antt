@@ -1,6 +1,5 @@
 pub mod EntryLemmas
 pub mod HeldLemmas
-pub mod KeyLemmas
 pub mod OverLemmas
 pub mod OpenLemmas
 pub mod RemoveLemmas

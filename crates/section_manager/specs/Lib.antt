@@ -2,17 +2,18 @@
 -- (`Sections`). Each section is a buffer over a blob of its own. What a crash at any moment of a call leaves of the blobs is said
 -- blob by blob (`Leaving`, `Lasting`), by the test that each buffer brings: one over sealed pages (`Sealed`), one without seals
 -- (`unsealed/Buffer`), whose contents since its blob settled are fronts of its bytes (`Fronts`).
-pub mod Raised
-pub mod Setting
-pub mod Leaving
-pub mod Fronts
-pub mod Entries
-pub mod Sections
-pub mod Lasting
-pub mod Refusing
-pub mod managing
+pub mod Answers
 pub mod Doomed
+pub mod Entries
+pub mod Fronts
+pub mod Lasting
+pub mod Leaving
+pub mod Raised
+pub mod Refusing
 pub mod Sealed
 pub mod SealedLaws
+pub mod Sections
+pub mod Setting
+pub mod lemmas
+pub mod managing
 pub mod unsealed
-pub mod Answers

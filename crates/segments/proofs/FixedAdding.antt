@@ -8,7 +8,7 @@ use Rattle.blob_device.specs.Timeline.{Timeline, disk}
 use Rattle.blob_device.specs.declared.device.Device as device
 use Rattle.blob_device.specs.declared.runtime.RError.{RError}
 use Rattle.blob_device.specs.declared.runtime.RError.TheVariants as runtime
-use Rattle.blob_device.proofs.Moments.{only_start}
+use Rattle.blob_device.specs.lemmas.Moments.{only_start}
 use Rattle.sealed_pages.specs.Buffer as pages
 use Rattle.sealed_pages.specs.Buffer.{extent, size_of, bytes_of, FlushesNothing, IsBacked, IsSealed}
 use Rattle.sealed_pages.specs.ChanceSeal.{Sealing}

@@ -10,7 +10,7 @@ use Rattle.blob_device.specs.Change.{Make, done}
 use Rattle.blob_device.specs.Disk.{Key, Blob, Disk}
 use Rattle.blob_device.specs.Opened.{OpenedList}
 use Rattle.blob_device.specs.Timeline.{Timeline, disk, Always, OnlyAt}
-use Rattle.blob_device.proofs.Moments.{always_now, always_then, only_start}
+use Rattle.blob_device.specs.lemmas.Moments.{always_now, always_then, only_start}
 use Rattle.sealed_pages.specs.Buffer.{Buffer, extent, size_of, bytes_of, FlushesNothing, IsSealed}
 use Rattle.sealed_pages.specs.ChanceSeal.{Sealing}
 use Rattle.sealed_pages.specs.Cutting.{IsAtRest}
@@ -35,7 +35,7 @@ use Rattle.section_manager.specs.Sealed.{adopted_bytes}
 use Rattle.section_manager.specs.SealedLaws.{counted}
 use Rattle.section_manager.specs.Sections.{Sections, key_of, IsHeld, IsKnown, IsSame, SameBounds, IsOver}
 use Rattle.section_manager.specs.Setting.{Setting}
-use Rattle.section_manager.proofs.sections.KeyLemmas.{keys_differ}
+use Rattle.section_manager.specs.lemmas.Keys.{keys_differ}
 use Rattle.section_manager.proofs.sections.OverLemmas.{same_key}
 use Rattle.segments.specs.FixedFull.{full_or_raised_of}
 use Rattle.segments.specs.FixedLasting.{IsBeginning}

@@ -18,7 +18,7 @@ use Rattle.sealed_pages.specs.Reads.{pages_for}
 use Rattle.sealed_pages.specs.SealedPrefix.{sealed_prefix}
 use Rattle.sealed_pages.specs.Shown.{shown}
 use Rattle.sealed_pages.specs.declared.page_blob.PageBlob.{PageBlob}
-use Rattle.sealed_pages.proofs.EntryLemmas.{only_read_of, only_read_start}
+use Rattle.sealed_pages.specs.lemmas.Entries.{only_read_of, only_read_start}
 use Rattle.sealed_pages.proofs.looking.Looking.{unchanged_now, unchanged_start}
 use Rattle.section_manager.specs.Raised.{raised}
 use Rattle.section_manager.specs.Refusing.{IsPruned, HasFailed}

@@ -8,7 +8,7 @@ use Rattle.std.proofs.lemmas.List.{ext_get_or, take-take, take_all}
 use Rattle.blob_device.specs.Disk.{Key, Blob, Disk, MayHold, MayLeave, past, settled_at}
 use Rattle.blob_device.specs.Opened.{OpenedList}
 use Rattle.blob_device.specs.Timeline.{Timeline, disk, Always, Each}
-use Rattle.blob_device.proofs.Moments.{always_now}
+use Rattle.blob_device.specs.lemmas.Moments.{always_now}
 use Rattle.sealed_pages.specs.Buffer.{size_of, bytes_of}
 use Rattle.sealed_pages.specs.ChanceSeal.{Leaves, NoChanceSeal}
 use Rattle.sealed_pages.specs.SealedPrefix.{sealed_prefix, adopted_size, Prefix}
@@ -28,7 +28,7 @@ use Rattle.section_manager.specs.declared.buffer.SectionBuffer as buffer
 use Rattle.section_manager.specs.declared.sealed.AppendFactory.{AppendFactory}
 use Rattle.section_manager.specs.declared.unopened.Unopened.{Unopened}
 use Rattle.section_manager.specs.declared.unopened.Unopened.TheVariants.{Section, Leftover}
-use Rattle.section_manager.proofs.sections.KeyLemmas.{key_injective}
+use Rattle.section_manager.specs.lemmas.Keys.{key_injective}
 use Rattle.segments.specs.FixedBounds.{whole_of, sealed_size, bounded_size, CuttingTail, IsTailCut, Bounding, IsOpenedWhole, IsOpenedCut}
 use Rattle.segments.specs.FixedLists.{Lists, bytes_held, section_bytes, section_size, IsJournal}
 use Rattle.segments.proofs.FixedWriteLemmas.{ArePages, size_here, bytes_here}

@@ -29,11 +29,11 @@ use Rattle.section_manager.specs.declared.journal.Damage.{Damage}
 use Rattle.section_manager.specs.declared.journal.Error.{Error}
 use Rattle.section_manager.specs.declared.journal.Error.TheVariants.{Codec, Corruption, Mem}
 use Rattle.section_manager.specs.declared.sealed.AppendFactory.{AppendFactory}
-use Rattle.section_manager.proofs.Seen.{failed_again}
+use Rattle.section_manager.specs.lemmas.Seen.{failed_again}
 use Rattle.segments.specs.declared.fixed.preflighting.Target.{Target}
 use Rattle.segments.specs.FixedChecks.{AreCheckable, ChecksMarker, LooksBelow, TakesFloor}
 use Rattle.segments.specs.FixedFloors.{Floors, IsBoundary, IsRefused, IsUnsealed}
-use Rattle.segments.proofs.FixedErrors.{codec_of}
+use Rattle.segments.specs.lemmas.FixedErrors.{codec_of}
 use Rattle.segments.proofs.FixedFloorLemmas.{over_read}
 use Rattle.segments.proofs.FixedReading.{failed_since}
 use Rattle.segments.proofs.FixedWriteLemmas.{ArePages}

@@ -5,7 +5,7 @@ use Rattle.std.proofs.lemmas.Nat.{mod-mul-add, div-mul-add, mul-le}
 use Rattle.blob_device.specs.Disk.{Key, Blob, Disk, past}
 use Rattle.blob_device.specs.Opened.{OpenedList, reads_of}
 use Rattle.blob_device.specs.Timeline.{Timeline, disk, OnlyAt}
-use Rattle.blob_device.proofs.Moments.{always_now}
+use Rattle.blob_device.specs.lemmas.Moments.{always_now}
 use Rattle.sealed_pages.specs.declared.page_blob.PageBlob.{PageBlob}
 use Rattle.sealed_pages.specs.Shown.{shown}
 use Rattle.sealed_pages.specs.Buffer.{size_of, IsSealed}
@@ -28,7 +28,7 @@ use Rattle.segments.proofs.FixedCounts.{count_here}
 use Rattle.segments.proofs.FixedErrorSteps.{cut_read, cut_other, cut_not_codec}
 use Rattle.segments.proofs.FixedKept.{whole_place}
 use Rattle.segments.proofs.FixedReading.{here, kept_owed, ahead_here, number_here, reached_here, behind_here}
-use Rattle.segments.proofs.FixedOwed.{items_cut}
+use Rattle.segments.specs.lemmas.FixedOwed.{items_cut}
 use Rattle.segments.proofs.FixedSteps.{Called, Answered, call_failed, call_ended, call_refused}
 use Rattle.segments.proofs.FixedWalks.{MayCut, key_new, later_one}
 use Rattle.segments.proofs.FixedWalksOn.{replaying_here, moments_of}

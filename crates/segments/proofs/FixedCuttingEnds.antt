@@ -2,7 +2,7 @@
 use Rattle.std.proofs.Common.{◌≡◌, ◌≢◌, ◌⊎◌, inl, inr, ℕ, ◌%◌, ◌^◌, ◌<◌, min, false, List, Option, None, Some, IsSome, IsSomeAnd, Result, Ok, Err, refl, sym, subst, arith}
 use Rattle.blob_device.specs.Timeline.{disk}
 use Rattle.blob_device.specs.declared.device.Device as device
-use Rattle.blob_device.proofs.Moments.{always_now}
+use Rattle.blob_device.specs.lemmas.Moments.{always_now}
 use Rattle.sealed_pages.specs.Buffer.{size_of}
 use Rattle.sealed_pages.specs.Shown.{shown}
 use Rattle.sealed_pages.specs.declared.page_blob.PageBlob.{PageBlob}
@@ -12,8 +12,8 @@ use Rattle.section_manager.specs.Setting.{Setting}
 use Rattle.section_manager.specs.declared.buffer.SectionBuffer as buffer
 use Rattle.section_manager.specs.declared.journal.Error.{Error}
 use Rattle.section_manager.specs.managing.Cutting as sections
-use Rattle.section_manager.proofs.Seen.{err_same, failed_again}
-use Rattle.section_manager.proofs.sections.KeyLemmas.{keys_differ}
+use Rattle.section_manager.specs.lemmas.Seen.{err_same, failed_again}
+use Rattle.section_manager.specs.lemmas.Keys.{keys_differ}
 use Rattle.segments.specs.FixedCutting.{Cuts, IsLongerHere}
 use Rattle.segments.specs.FixedLists.{Lists, IsJournal}
 use Rattle.segments.proofs.FixedCutLemmas.{cut_front, cut_journal, cut_sealing, cut_unsealed}

@@ -10,7 +10,7 @@ use Rattle.blob_device.specs.Opened.{OpenedList, reads_of}
 use Rattle.blob_device.specs.Timeline.{Timeline, disk, Always, Each}
 use Rattle.blob_device.specs.declared.device.Device as device
 use Rattle.blob_device.specs.declared.runtime.RError.TheVariants.{InvalidChecksum}
-use Rattle.blob_device.proofs.Moments.{always_start, always_then, always_weaker}
+use Rattle.blob_device.specs.lemmas.Moments.{always_start, always_then, always_weaker}
 use Rattle.sealed_pages.specs.Buffer.{size_of, bytes_of}
 use Rattle.sealed_pages.specs.SealedPrefix.{sealed_prefix}
 use Rattle.sealed_pages.specs.Reads.{IsShort}
@@ -34,7 +34,7 @@ use Rattle.segments.specs.FixedReading.{HasNotRead, IsBelowFloor}
 use Rattle.segments.specs.FixedReplay.{Walk, IsAhead, IsIn, IsLeft, IsDrained, IsGoneOver, SameWalk, SameItems, IsSameOrCut, KeepsSections, KeepsFloors, KeepsBytes, KeepsItems, IsWalk, Gives, Refuses, Replaying, LeavesNoMore, EndsBelow, FindsDamage, kept_of, kept_bytes}
 use Rattle.segments.specs.FixedStepping.{reads_left, ReadsOnce}
 use Rattle.segments.proofs.FixedKept.{short_item}
-use Rattle.segments.proofs.FixedOwed.{same_items, items_then, same_or_cut, cut_then}
+use Rattle.segments.specs.lemmas.FixedOwed.{same_items, items_then, same_or_cut, cut_then}
 use Rattle.segments.proofs.FixedRunning.{idle_after}
 use Rattle.segments.proofs.FixedWalks.{same_bytes}
 use Rattle.segments.proofs.FixedWalksOn.{replaying_start}

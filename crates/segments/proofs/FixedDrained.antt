@@ -25,7 +25,7 @@ use Rattle.section_manager.specs.Sections.{key_of, IsHeld}
 use Rattle.section_manager.specs.Setting.{Setting}
 use Rattle.section_manager.specs.declared.buffer.SectionBuffer as buffer
 use Rattle.section_manager.specs.declared.sealed.AppendFactory.{AppendFactory}
-use Rattle.section_manager.proofs.sections.KeyLemmas.{key_injective}
+use Rattle.section_manager.specs.lemmas.Keys.{key_injective}
 use Rattle.segments.specs.FixedBounds.{whole_of, bounded_size, Bounding, IsOpenedCut, IsOpenedAtMost, IsRefusedItem}
 use Rattle.segments.specs.FixedDraining.{IsFromStart, IsGoneThrough, IsFirstRefused}
 use Rattle.segments.specs.FixedItems.{item_at, IsItem}

@@ -7,7 +7,7 @@ use Rattle.blob_device.specs.Timeline.{disk}
 use Rattle.blob_device.specs.declared.device.Device as device
 use Rattle.blob_device.specs.declared.runtime.RError.{RError}
 use Rattle.blob_device.specs.declared.runtime.RError.TheVariants.{InvalidChecksum}
-use Rattle.blob_device.proofs.Moments.{always_now}
+use Rattle.blob_device.specs.lemmas.Moments.{always_now}
 use Rattle.sealed_pages.specs.Buffer.{size_of}
 use Rattle.sealed_pages.specs.Entries.{ReadsAtMost}
 use Rattle.sealed_pages.specs.Readers.{Reader, IsReplayOf, ReadsUnread, SameReader, missing_of, next_of}

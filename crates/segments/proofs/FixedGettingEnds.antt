@@ -13,7 +13,7 @@ use Rattle.sealed_pages.specs.declared.page_blob.PageBlob.{PageBlob}
 use Rattle.sealed_pages.specs.Buffer.{size_of, bytes_of, IsBacked}
 use Rattle.sealed_pages.specs.Buffer as pages
 use Rattle.sealed_pages.specs.Shown.{shown}
-use Rattle.sealed_pages.proofs.EntryLemmas.{only_read_of}
+use Rattle.sealed_pages.specs.lemmas.Entries.{only_read_of}
 use Rattle.sealed_pages.proofs.looking.Looking.{unchanged_now, unchanged_start}
 use Rattle.section_manager.specs.Refusing.{IsPruned}
 use Rattle.section_manager.specs.Sections.{key_of}
@@ -22,7 +22,7 @@ use Rattle.section_manager.specs.declared.buffer.SectionBuffer as buffer
 use Rattle.section_manager.specs.declared.journal.Error.{Error}
 use Rattle.section_manager.specs.declared.journal.Error.TheVariants.{Runtime, Codec, AlreadyPrunedToSection, SectionOutOfRange, ItemOutOfRange}
 use Rattle.section_manager.specs.declared.sealed.AppendFactory.{AppendFactory}
-use Rattle.section_manager.proofs.Seen.{err_same}
+use Rattle.section_manager.specs.lemmas.Seen.{err_same}
 use Rattle.segments.specs.FixedGetting.{Gets, GetsLast, GetsMany, ReadsItem, ReadsEach}
 use Rattle.segments.specs.FixedItems.{item_at, IsItem}
 use Rattle.segments.specs.FixedLists.{Lists, section_bytes, section_size, IsJournal}

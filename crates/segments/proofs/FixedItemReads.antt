@@ -19,11 +19,11 @@ use Rattle.section_manager.specs.Raised.{raised_codec}
 use Rattle.section_manager.specs.Refusing.{HasFailed}
 use Rattle.section_manager.specs.declared.journal.Error.{Error}
 use Rattle.section_manager.specs.declared.journal.Error.TheVariants.{Runtime, Codec, Mem}
-use Rattle.section_manager.proofs.Seen.{err_same}
+use Rattle.section_manager.specs.lemmas.Seen.{err_same}
 use Rattle.segments.specs.FixedGetting.{ReadsItem, ReadsEach}
 use Rattle.segments.specs.FixedItems.{item_at}
 use Rattle.segments.specs.FixedReading.{is_item_held, unheld, IsDamaged, IsItemCovered, HasNotRead}
-use Rattle.segments.proofs.FixedErrors.{codec_of}
+use Rattle.segments.specs.lemmas.FixedErrors.{codec_of}
 
 -- no call reads nothing
 pub no_reads : (n : ℕ) (k : Key) (a : OpenedList) → ReadsAtMost n k a a

@@ -7,7 +7,7 @@ use Rattle.blob_device.specs.Timeline.{disk, OnlyAt}
 use Rattle.blob_device.specs.declared.device.Device as device
 use Rattle.blob_device.specs.declared.runtime.RError.{RError}
 use Rattle.blob_device.specs.declared.runtime.RError.TheVariants.{InvalidChecksum}
-use Rattle.blob_device.proofs.Moments.{always_now}
+use Rattle.blob_device.specs.lemmas.Moments.{always_now}
 use Rattle.sealed_pages.specs.Buffer.{Buffer, size_of, IsBacked}
 use Rattle.sealed_pages.specs.Buffer as pages
 use Rattle.sealed_pages.specs.ChanceSeal.{Sealing}
@@ -37,7 +37,7 @@ use Rattle.segments.proofs.FixedBuffers.{cut_at, no_cut_moments, cut_moved}
 use Rattle.segments.proofs.FixedCalls.{cut_stands}
 use Rattle.segments.proofs.FixedCounts.{few_reads}
 use Rattle.segments.proofs.FixedErrorSteps.{raised_cut}
-use Rattle.segments.proofs.FixedErrors.{runtime_of}
+use Rattle.segments.specs.lemmas.FixedErrors.{runtime_of}
 use Rattle.segments.proofs.FixedWriteLemmas.{ArePages}
 use Rattle.blob_device.proofs.general.Options.{same_some}
 

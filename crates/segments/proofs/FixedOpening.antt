@@ -7,7 +7,7 @@ use Rattle.std.proofs.lemmas.Nat.{le-div}
 use Rattle.blob_device.specs.Disk.{Key, Blob, Disk}
 use Rattle.blob_device.specs.Opened.{OpenedList, reads_of}
 use Rattle.blob_device.specs.Timeline.{Timeline, disk, Always, Each}
-use Rattle.blob_device.proofs.Moments.{always_start}
+use Rattle.blob_device.specs.lemmas.Moments.{always_start}
 use Rattle.sealed_pages.specs.declared.page_blob.PageBlob.{PageBlob}
 use Rattle.sealed_pages.specs.Shown.{shown}
 use Rattle.sealed_pages.specs.Buffer.{size_of, bytes_of, IsBacked, IsSealed}
@@ -33,7 +33,7 @@ use Rattle.segments.proofs.FixedCounts.{count_here, count_ahead}
 use Rattle.segments.proofs.FixedEnding.{IsNext, next_after, next_from, ahead_from, next_back, fewer_ahead, nearer_begun}
 use Rattle.segments.proofs.FixedReading.{here}
 use Rattle.segments.proofs.FixedErrorSteps.{failed_other, failed_sound, failed_not_codec}
-use Rattle.segments.proofs.FixedOwed.{same_items}
+use Rattle.segments.specs.lemmas.FixedOwed.{same_items}
 use Rattle.segments.proofs.FixedSteps.{Called, call_failed, call_passed}
 use Rattle.segments.proofs.FixedWalks.{IsBehind, IsReached, MayCut, MayFlush, MayFront, key_new, first_same, held_back, held_on, kept_other, later_one}
 use Rattle.segments.proofs.FixedWalksOn.{IsKnownAgain, replaying_start, replaying_here, moments_of}

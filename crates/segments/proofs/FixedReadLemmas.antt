@@ -14,7 +14,7 @@ use Rattle.blob_device.specs.Disk.{Key}
 use Rattle.blob_device.specs.Opened.{OpenedList}
 use Rattle.sealed_pages.specs.Entries.{ReadsAtMost}
 use Rattle.sealed_pages.specs.Reads.{IsShort, touched, below}
-use Rattle.sealed_pages.proofs.EntryLemmas.{reads_then}
+use Rattle.sealed_pages.specs.lemmas.Entries.{reads_then}
 use Rattle.segments.specs.FixedItems.{item_at}
 use Rattle.blob_device.proofs.general.Numbers.{div_place, times_sum}
 

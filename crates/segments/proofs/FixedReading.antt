@@ -7,8 +7,8 @@ use Rattle.std.proofs.lemmas.Nat.{le-div, mul-le}
 use Rattle.blob_device.specs.Disk.{Key, Blob, Disk}
 use Rattle.blob_device.specs.Opened.{Opened, OpenedList, reads_of}
 use Rattle.blob_device.specs.Timeline.{Timeline, disk, Each}
-use Rattle.blob_device.proofs.Moments.{always_start, always_now, always_then, always_weaker}
-use Rattle.blob_device.proofs.Puts.{same_or_other}
+use Rattle.blob_device.specs.lemmas.Moments.{always_start, always_now, always_then, always_weaker}
+use Rattle.blob_device.specs.lemmas.Puts.{same_or_other}
 use Rattle.sealed_pages.specs.declared.page_blob.PageBlob.{PageBlob}
 use Rattle.sealed_pages.specs.Shown.{shown}
 use Rattle.sealed_pages.specs.Entries.{IsOpenAt, ReadsAtMost}
@@ -34,7 +34,7 @@ use Rattle.section_manager.specs.Setting.{Setting}
 use Rattle.section_manager.specs.Sections.{Sections, key_of, IsHeld, IsKeyOf, HasOpened, StandsOver}
 use Rattle.section_manager.specs.Entries.{OnlyOwnEntry}
 use Rattle.section_manager.specs.Refusing.{HasFailed}
-use Rattle.section_manager.proofs.sections.KeyLemmas.{keys_differ}
+use Rattle.section_manager.specs.lemmas.Keys.{keys_differ}
 use Rattle.segments.specs.FixedItems.{item_at, IsItem}
 use Rattle.segments.specs.FixedReading.{HasNotRead, IsBelowFloor}
 use Rattle.segments.specs.FixedLists.{section_size}
@@ -43,7 +43,7 @@ use Rattle.segments.specs.FixedStepping.{standing, after_item, bytes_ahead, way_
 use Rattle.segments.proofs.FixedCounts.{count_here, count_apart, count_same}
 use Rattle.segments.proofs.FixedKept.{covered_on, covered_length, item_kept, prefix_data, flushed_data}
 use Rattle.segments.proofs.FixedEnding.{ahead_from}
-use Rattle.segments.proofs.FixedOwed.{same_items, same_or_cut}
+use Rattle.segments.specs.lemmas.FixedOwed.{same_items, same_or_cut}
 use Rattle.segments.proofs.FixedWalks.{IsBehind, IsReached, same_bytes, left_later}
 use Rattle.segments.proofs.FixedWalksOn.{replaying_start}
 use Rattle.segments.proofs.FixedStopping.{ended_back, ended_here}

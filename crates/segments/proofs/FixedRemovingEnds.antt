@@ -2,13 +2,13 @@
 use Rattle.std.proofs.Common.{◌≡◌, ℕ, ◌<◌, ◌≤◌, Bool, false, List, Result, Ok, Err, sym, subst}
 use Rattle.blob_device.specs.declared.device.Device as device
 use Rattle.blob_device.specs.Timeline.{disk}
-use Rattle.blob_device.proofs.Moments.{always_now}
+use Rattle.blob_device.specs.lemmas.Moments.{always_now}
 use Rattle.sealed_pages.specs.declared.page_blob.PageBlob.{PageBlob}
 use Rattle.section_manager.specs.Setting.{Setting}
 use Rattle.section_manager.specs.declared.buffer.SectionBuffer as buffer
 use Rattle.section_manager.specs.declared.journal.Error.{Error}
 use Rattle.section_manager.specs.managing.Removing as sections
-use Rattle.section_manager.proofs.Seen.{failed_again}
+use Rattle.section_manager.specs.lemmas.Seen.{failed_again}
 use Rattle.segments.specs.FixedLists.{Lists, IsJournal}
 use Rattle.segments.specs.FixedRemoving.{Clears, Prunes}
 use Rattle.segments.proofs.FixedRemoveLemmas.{journal_cleared, journal_pruned, pruned_bytes}

@@ -5,7 +5,7 @@ use Rattle.std.proofs.Common.{inl, inr, refl, sym, ◌∙◌, ap, subst, arith}
 use Rattle.blob_device.specs.Disk.{Key, Disk}
 use Rattle.blob_device.specs.Opened.{OpenedList, reads_of}
 use Rattle.blob_device.specs.Timeline.{Timeline, disk, Always, Each}
-use Rattle.blob_device.proofs.Moments.{always_start, always_then, always_weaker}
+use Rattle.blob_device.specs.lemmas.Moments.{always_start, always_then, always_weaker}
 use Rattle.sealed_pages.specs.declared.page_blob.PageBlob.{PageBlob}
 use Rattle.sealed_pages.specs.Shown.{shown}
 use Rattle.sealed_pages.specs.Buffer.{size_of, bytes_of}
@@ -26,7 +26,7 @@ use Rattle.segments.specs.FixedLists.{section_size}
 use Rattle.segments.specs.FixedReplay.{Walk, IsAhead, IsIn, IsLeft, IsDrained, SameWalk, SameItems, IsSameOrCut, KeepsSections, KeepsFloors, KeepsBytes, KeepsItems, HasWalk, IsWalk, Gives, Refuses, IsEndedAt, Stops, IsCutting, Replaying, LeavesNoMore, EndsBelow, EndsDamaged, kept_bytes}
 use Rattle.segments.specs.FixedStepping.{failing, way_of, reads_left, ReadsOnce, GoesOn, Carries, Steps}
 use Rattle.segments.proofs.FixedStopping.{ended_back, ended_failing}
-use Rattle.segments.proofs.FixedOwed.{same_items, items_then, same_or_cut, cut_then}
+use Rattle.segments.specs.lemmas.FixedOwed.{same_items, items_then, same_or_cut, cut_then}
 use Rattle.segments.proofs.FixedReading.{not_read_since, failed_since}
 use Rattle.segments.proofs.FixedWalks.{same_bytes, in_section}
 use Rattle.segments.proofs.FixedWriteLemmas.{settled_idle}

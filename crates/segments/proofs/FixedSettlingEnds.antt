@@ -7,7 +7,7 @@ use Rattle.section_manager.specs.Setting.{Setting}
 use Rattle.section_manager.specs.declared.buffer.SectionBuffer as buffer
 use Rattle.section_manager.specs.declared.journal.Error.{Error}
 use Rattle.section_manager.specs.managing.Settling as sections
-use Rattle.section_manager.proofs.Seen.{err_same, failed_again}
+use Rattle.section_manager.specs.lemmas.Seen.{err_same, failed_again}
 use Rattle.segments.specs.FixedLists.{Lists, IsJournal}
 use Rattle.segments.specs.FixedSettling.{Settles}
 use Rattle.segments.proofs.FixedPassing.{guard_ok}

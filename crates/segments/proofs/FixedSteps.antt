@@ -17,14 +17,14 @@ use Rattle.section_manager.specs.declared.journal.Error.TheVariants.{ItemOutOfRa
 use Rattle.section_manager.specs.Setting.{Setting}
 use Rattle.section_manager.specs.Sections.{key_of, IsHeld, IsKeyOf, IsOver}
 use Rattle.section_manager.specs.Refusing.{HasFailed, HasDamage}
-use Rattle.section_manager.proofs.sections.KeyLemmas.{keys_differ}
+use Rattle.section_manager.specs.lemmas.Keys.{keys_differ}
 use Rattle.segments.specs.FixedReading.{HasNotRead, IsBelowFloor}
 use Rattle.segments.specs.FixedLists.{size_held, section_size}
 use Rattle.segments.specs.FixedReplay.{Place, Walk, IsAhead, IsIn, IsLeft, SameItems, IsSameOrCut, KeepsSections, KeepsFloors, KeepsItems, HasSameBytes, KeepsBytes, IsWalk, Refuses, IsEndedAt, IsCutting, Replaying, LeavesNoMore, EndsBelow, EndsDamaged, kept_bytes}
 use Rattle.segments.specs.FixedStepping.{word, sections_ahead, bytes_ahead, way_of, reads_left, ReadsOnce, GoesOn, Steps}
 use Rattle.segments.proofs.FixedCounts.{count_other, count_over}
 use Rattle.segments.proofs.FixedKept.{short_item}
-use Rattle.segments.proofs.FixedOwed.{same_items, same_or_cut}
+use Rattle.segments.specs.lemmas.FixedOwed.{same_items, same_or_cut}
 use Rattle.segments.proofs.FixedWalks.{OnlyOne, IsBehind, IsReached, same_bytes, key_new, blob_other, held_back, held_on, kept_other, not_ahead, not_near, left_first, left_later, left_all}
 use Rattle.segments.proofs.FixedWalksOn.{walk_broken, IsKnownAgain, walk_on, walk_refused}
 use Rattle.blob_device.proofs.general.Options.{none_in, same_some, some_there}

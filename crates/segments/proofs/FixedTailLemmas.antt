@@ -6,7 +6,7 @@ use Rattle.blob_device.specs.Disk.{Key, Blob}
 use Rattle.blob_device.specs.Opened.{OpenedList}
 use Rattle.blob_device.specs.Timeline.{Timeline, disk, Always}
 use Rattle.blob_device.specs.declared.device.Device as device
-use Rattle.blob_device.proofs.Moments.{always_weaker}
+use Rattle.blob_device.specs.lemmas.Moments.{always_weaker}
 use Rattle.sealed_pages.specs.Buffer.{size_of, IsSealed}
 use Rattle.sealed_pages.specs.SealedPrefix.{sealed_prefix}
 use Rattle.sealed_pages.specs.Shown.{shown}

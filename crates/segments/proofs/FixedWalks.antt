@@ -10,7 +10,7 @@ use Rattle.sealed_pages.specs.ChanceSeal.{Leaves}
 use Rattle.sealed_pages.specs.SealedPrefix.{sealed_prefix}
 use Rattle.sealed_pages.specs.Unrecovered.{IsUnrecovered}
 use Rattle.section_manager.specs.Sections.{section_key, key_of, IsHeld, IsKeyOf, IsSame}
-use Rattle.section_manager.proofs.sections.KeyLemmas.{keys_differ}
+use Rattle.section_manager.specs.lemmas.Keys.{keys_differ}
 use Rattle.segments.specs.FixedReplay.{Place, Walk, IsAhead, IsIn, IsReadWhole, IsLeft, first_of, kept_of, kept_bytes, SameWalk, HasSameBytes, StaysStill, Replaying}
 use Rattle.blob_device.proofs.general.Options.{none_in, some_there}
 

@@ -5,7 +5,7 @@ use Rattle.std.proofs.lemmas.Bool.Decides.{nat_tests}
 use Rattle.blob_device.specs.Disk.{Key, Blob, Disk, past}
 use Rattle.blob_device.specs.Opened.{OpenedList}
 use Rattle.blob_device.specs.Timeline.{Timeline, disk, Always, Each}
-use Rattle.blob_device.proofs.Moments.{always_now, always_weaker}
+use Rattle.blob_device.specs.lemmas.Moments.{always_now, always_weaker}
 use Rattle.sealed_pages.specs.Buffer.{size_of, bytes_of, IsSealed}
 use Rattle.sealed_pages.specs.Buffer.{key_of as page_key}
 use Rattle.sealed_pages.specs.ChanceSeal.{NoChanceSeal}
@@ -22,7 +22,7 @@ use Rattle.section_manager.specs.Leaving.{Leaves}
 use Rattle.section_manager.specs.Sealed.{is_unsettled, adopted_bytes, Stands, MayKeep}
 use Rattle.section_manager.specs.Sections.{Sections, key_of, IsHeld, IsSame, SameBounds, IsOver, IsSynced}
 use Rattle.section_manager.specs.Setting.{Setting}
-use Rattle.section_manager.proofs.sections.KeyLemmas.{key_injective}
+use Rattle.section_manager.specs.lemmas.Keys.{key_injective}
 use Rattle.section_manager.proofs.sections.OverLemmas.{same_key}
 use Rattle.segments.specs.FixedLasting.{Settling}
 use Rattle.segments.specs.FixedLists.{Lists, section_bytes, section_size, IsJournal, IsProven}

@@ -1,7 +1,6 @@
 pub mod FixedKept
 pub mod FixedWalks
 pub mod FixedWalksOn
-pub mod FixedOwed
 pub mod FixedEnding
 pub mod FixedCounts
 pub mod FixedStopping
@@ -31,7 +30,6 @@ pub mod FixedRemovingEnds
 pub mod FixedCuttingEnds
 pub mod FixedOpenLemmas
 pub mod FixedOpens
-pub mod FixedErrors
 pub mod FixedPassing
 pub mod FixedReadLemmas
 pub mod FixedMemory

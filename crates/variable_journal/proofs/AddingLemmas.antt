@@ -15,7 +15,7 @@ use Rattle.section_manager.specs.declared.buffer.SectionBuffer as buffer
 use Rattle.section_manager.specs.declared.journal.Error.{Error}
 use Rattle.section_manager.specs.declared.journal.Error.TheVariants.{Full, Mem, ValueTooLarge}
 use Rattle.section_manager.specs.declared.sealed.AppendFactory.{AppendFactory}
-use Rattle.section_manager.proofs.Seen.{err_same, failed_again}
+use Rattle.section_manager.specs.lemmas.Seen.{err_same, failed_again}
 use Rattle.segments.specs.FixedAdding as bytes
 use Rattle.segments.specs.FixedAdding.{WouldOverfill}
 use Rattle.segments.specs.FixedLists.{Lists, section_bytes, IsRecovered}

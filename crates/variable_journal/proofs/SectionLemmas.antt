@@ -4,14 +4,14 @@ use Rattle.std.proofs.Common.{◌≡◌, ◌∙◌, ◌⊎◌, inl, inr, ℕ, �
 use Rattle.std.proofs.lemmas.Bool.{cases_lt}
 use Rattle.blob_device.specs.Disk.{Blob, Disk}
 use Rattle.blob_device.specs.Timeline.{Timeline, disk, Always, Each}
-use Rattle.blob_device.proofs.Moments.{always_now, always_weaker}
+use Rattle.blob_device.specs.lemmas.Moments.{always_now, always_weaker}
 use Rattle.sealed_pages.specs.Buffer.{bytes_of}
 use Rattle.sealed_pages.specs.Shown.{shown}
 use Rattle.sealed_pages.specs.declared.page_blob.PageBlob.{PageBlob}
 use Rattle.section_manager.specs.Lasting.{IsUnsettled, Removing}
 use Rattle.section_manager.specs.Sections.{Sections, section_key, key_of, IsGone, IsHeld, IsKnown, IsSame, IsSynced, SameBounds, SamePlace}
 use Rattle.section_manager.specs.declared.buffer.SectionBuffer as buffer
-use Rattle.section_manager.proofs.sections.KeyLemmas.{key_injective}
+use Rattle.section_manager.specs.lemmas.Keys.{key_injective}
 use Rattle.segments.specs.FixedLasting.{Settling}
 use Rattle.segments.specs.FixedLists.{Lists, bytes_held, section_bytes}
 use Rattle.variable_journal.specs.Frames.{rest_of}

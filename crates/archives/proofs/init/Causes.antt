@@ -17,7 +17,7 @@ use Rattle.paired.specs.Records.{front}
 use Rattle.paired.specs.Replaying.{Run, is_sound_over, marker, records_given, records_over}
 use Rattle.paired.proofs.KeptLemmas.{stored_entries}
 use Rattle.paired.proofs.opening.Ends.{marked_is, marked_or_zero}
-use Rattle.paired.proofs.RecordLemmas.{front-take}
+use Rattle.paired.specs.lemmas.Records.{front-take}
 use Rattle.archives.specs.Filing.{Filing, kept_entries}
 use Rattle.archives.specs.IndexRecord.{index_of}
 use Rattle.archives.specs.Lawful.{Lawful}

@@ -5,7 +5,7 @@ use Rattle.std.specs.Prelude.{⊤}
 use Rattle.blob_device.specs.Disk.{Disk, Key}
 use Rattle.blob_device.specs.Opened.{OpenedList}
 use Rattle.blob_device.specs.Timeline.{Timeline, disk, Always}
-use Rattle.blob_device.proofs.Moments.{always_now, always_then, always_weaker}
+use Rattle.blob_device.specs.lemmas.Moments.{always_now, always_then, always_weaker}
 use Rattle.paired.specs.Crashes.{IsOwn}
 use Rattle.paired.specs.Kept.{Layout, IsSameLayout, stored_records}
 use Rattle.paired.specs.Opening.{MayBeOpened, OnlyOpens, Recalls, RecallsAlone}

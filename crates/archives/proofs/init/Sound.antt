@@ -5,7 +5,7 @@ use Rattle.std.specs.List.{AllByRecursion}
 use Rattle.std.proofs.lemmas.Bool.{cases_lt}
 use Rattle.std.proofs.lemmas.Bool.Decides.{nat_tests}
 use Rattle.blob_device.specs.Disk.{Disk, Image, IsCrashOf, Key, MayLeave, past, put, reads}
-use Rattle.blob_device.proofs.Puts.{put_other, put_same, same_or_other}
+use Rattle.blob_device.specs.lemmas.Puts.{put_other, put_same, same_or_other}
 use Rattle.sealed_pages.specs.ChanceSeal as pages
 use Rattle.sealed_pages.specs.SealedPrefix.{sealed_prefix}
 use Rattle.sealed_pages.specs.declared.page_blob.PageBlob.{PageBlob}
@@ -23,7 +23,7 @@ use Rattle.paired.specs.Records as stored
 use Rattle.paired.specs.Records.{front, is_sound, records}
 use Rattle.paired.proofs.KeptLemmas.{stored_entries}
 use Rattle.paired.proofs.opening.Ends.{follow_first}
-use Rattle.paired.proofs.RecordLemmas.{front-take}
+use Rattle.paired.specs.lemmas.Records.{front-take}
 use Rattle.archives.specs.Archives.{Archive, LeavesNoForeign, filing_of, state_of}
 use Rattle.archives.specs.Filing.{Filing, filed, kept_entries}
 use Rattle.archives.specs.IndexRecord.{index_of}

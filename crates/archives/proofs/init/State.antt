@@ -23,7 +23,7 @@ use Rattle.paired.specs.Records as stored
 use Rattle.paired.specs.Records.{records}
 use Rattle.paired.specs.Replaying.{Run, marker, records_given}
 use Rattle.paired.proofs.pair.Reads.{index_size}
-use Rattle.paired.proofs.RecordLemmas.{length-records}
+use Rattle.paired.specs.lemmas.Records.{length-records}
 use Rattle.archives.specs.Archives.{Archive, filing_of, state_of}
 use Rattle.archives.specs.Filing.{Filing, filed, kept_entries}
 use Rattle.archives.specs.IndexRecord.{index_of, key_of as key_in}

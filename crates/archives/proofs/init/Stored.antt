@@ -31,7 +31,7 @@ use Rattle.paired.proofs.pair.Facts.{not_there}
 use Rattle.paired.proofs.pair.Reads.{index_size}
 use Rattle.paired.proofs.pair.Synced.{Here}
 use Rattle.paired.proofs.reconcile.Resting.{none_of, reads_absent, reads_there, rest_there}
-use Rattle.paired.proofs.RecordLemmas.{length-records}
+use Rattle.paired.specs.lemmas.Records.{length-records}
 use Rattle.blob_device.proofs.general.Options.{none_or_value, some_same, some_there, value_of}
 
 module _ {F S : Type 0} {gs : _} {g : buffer.Ghosts (PageBlob S gs)} {gives : F → Setting} {takes : WriteFactory → Setting} {told : Type 0} (run : Run F (PageBlob S gs)) (o : OpenedList) (d : Disk)

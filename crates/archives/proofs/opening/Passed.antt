@@ -33,7 +33,7 @@ use Rattle.paired.proofs.GlobLemmas.{buffers}
 use Rattle.paired.proofs.KeptLemmas.{stored_entries}
 use Rattle.paired.proofs.opening.Ends.{front_all}
 use Rattle.paired.proofs.pair.Synced.{Here}
-use Rattle.paired.proofs.RecordLemmas.{front-take, length-records, records-enough, records-front}
+use Rattle.paired.specs.lemmas.Records.{front-take, length-records, records-enough, records-front}
 use Rattle.archives.proofs.init.Stored as opening
 use Rattle.blob_device.proofs.general.Numbers.{item_ends, times_next}
 use Rattle.blob_device.proofs.general.Options.{has_value, none_or_value, some_same, some_there, value_of}

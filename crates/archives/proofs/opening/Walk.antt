@@ -5,7 +5,7 @@ use Rattle.std.proofs.Math.Seq.{take-length}
 use Rattle.blob_device.specs.Disk.{Key, Disk}
 use Rattle.blob_device.specs.Opened.{OpenedList}
 use Rattle.blob_device.specs.Timeline.{Timeline, disk, Always}
-use Rattle.blob_device.proofs.Moments.{always_now, always_start, always_then, always_weaker}
+use Rattle.blob_device.specs.lemmas.Moments.{always_now, always_start, always_then, always_weaker}
 use Rattle.paired.specs.Crashes.{IsIndexOf, IsOwn}
 use Rattle.paired.specs.Kept.{Layout, Markers, kept, marker_of, stored_records}
 use Rattle.paired.specs.Opening.{as_read, IsLawful, MayBeOpened, Recalls, RecallsAlone}

@@ -20,7 +20,7 @@ use Rattle.paired.specs.Pair.{Pair, IsPair, length_of, list_of, records_of, sync
 use Rattle.paired.specs.Records as stored
 use Rattle.paired.proofs.pair.Appending.{records-push}
 use Rattle.paired.proofs.pair.Reads.{index_size}
-use Rattle.paired.proofs.RecordLemmas.{length-records}
+use Rattle.paired.specs.lemmas.Records.{length-records}
 use Rattle.ordinal_store.specs.Numbers.{AddsNumber}
 use Rattle.archives.specs.Archives.{Archive, Buffers, IsArchive}
 use Rattle.archives.specs.IndexRecord.{IsSpelled, index_record, index_of, key_of}

@@ -5,7 +5,7 @@ use Rattle.blob_device.specs.Disk.{Disk, Key, MayLeave}
 use Rattle.value_codec.specs.declared.codec.Error as codec
 use Rattle.sealed_pages.specs.declared.page_blob.PageBlob.{PageBlob}
 use Rattle.section_manager.specs.Sections.{section_key}
-use Rattle.section_manager.proofs.sections.KeyLemmas.{keys_differ}
+use Rattle.section_manager.specs.lemmas.Keys.{keys_differ}
 use Rattle.paired.specs.glob.Sections as glob
 use Rattle.paired.specs.Pair.{HasNoBytes, Pair, list_of, records_of, IsSafeOn}
 use Rattle.paired.specs.Places.{Follow}

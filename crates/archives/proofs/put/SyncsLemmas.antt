@@ -8,8 +8,8 @@ use Rattle.blob_device.specs.Footprint.{AtMostBoth, Footprint, NoBound}
 use Rattle.blob_device.specs.Timeline.{Always, disk}
 use Rattle.blob_device.specs.declared.device.Device as device
 use Rattle.blob_device.specs.declared.runtime.RError.TheVariants as runtime
-use Rattle.blob_device.proofs.FootprintLemmas.{footprint_none, footprint_then, footprint_wider}
-use Rattle.blob_device.proofs.Moments.{always_then, always_weaker}
+use Rattle.blob_device.specs.lemmas.Footprint.{footprint_none, footprint_then, footprint_wider}
+use Rattle.blob_device.specs.lemmas.Moments.{always_then, always_weaker}
 use Rattle.meta_store.specs.Store.{Store}
 use Rattle.meta_store.specs.declared.error.Error.TheVariants as metadata
 use Rattle.value_codec.specs.declared.key.Key8.{Key8}

@@ -9,7 +9,7 @@ use Rattle.std.proofs.lemmas.List.{length-map}
 use Rattle.blob_device.specs.Disk.{Disk, Key}
 use Rattle.blob_device.specs.Opened.{OpenedList}
 use Rattle.blob_device.specs.Timeline.{Timeline, disk, Always}
-use Rattle.blob_device.proofs.Moments.{always_now, always_weaker}
+use Rattle.blob_device.specs.lemmas.Moments.{always_now, always_weaker}
 use Rattle.sealed_pages.specs.declared.page_blob.PageBlob.{PageBlob}
 use Rattle.sealed_pages.specs.declared.write_blob.WriteBlob.{WriteBlob}
 use Rattle.section_manager.specs.Sections.{section_key, IsHeld}
@@ -25,7 +25,7 @@ use Rattle.paired.specs.Places.{Follow}
 use Rattle.paired.specs.Records as stored
 use Rattle.paired.proofs.KeptLemmas.{follow_least}
 use Rattle.paired.proofs.pair.Reads.{index_size, leaves_now}
-use Rattle.paired.proofs.RecordLemmas.{length-records}
+use Rattle.paired.specs.lemmas.Records.{length-records}
 use Rattle.archives.specs.Archives.{Archive, IsArchive, IsSoundArchive, LeavesNoForeign, filing_of, state_of}
 use Rattle.archives.specs.Filing.{filed}
 use Rattle.archives.specs.IndexRecord.{IsSpelled}

@@ -2,7 +2,7 @@
 use Rattle.std.proofs.Common.{◌≡◌, ◌⊎◌, inl, inr, refl, sym, subst, ℕ, List, [], length, take, Option, None, Some}
 use Rattle.blob_device.specs.Disk.{Disk}
 use Rattle.blob_device.specs.Timeline.{Timeline, Always}
-use Rattle.blob_device.proofs.Moments.{always_weaker}
+use Rattle.blob_device.specs.lemmas.Moments.{always_weaker}
 use Rattle.archives.specs.Commands.{Command, Start, Sync}
 use Rattle.archives.specs.Filing.{Filing, kept}
 use Rattle.archives.specs.Machine.{Entry, State}

@@ -8,7 +8,7 @@ use Rattle.blob_device.specs.Disk.{Key, Blob, reads}
 use Rattle.blob_device.specs.Opened.{OpenedList}
 use Rattle.blob_device.specs.Timeline.{Timeline, disk, Each}
 use Rattle.blob_device.specs.declared.runtime.RError.TheVariants.{InvalidChecksum}
-use Rattle.blob_device.proofs.Moments.{always_now}
+use Rattle.blob_device.specs.lemmas.Moments.{always_now}
 use Rattle.sealed_pages.specs.declared.page_blob.PageBlob.{PageBlob}
 use Rattle.sealed_pages.specs.Buffer.{size_of, bytes_of, IsSealed}
 use Rattle.sealed_pages.specs.SealedPrefix.{sealed_prefix}
@@ -40,7 +40,7 @@ use Rattle.paired.proofs.next.Turn.{left_held}
 use Rattle.paired.proofs.next.Went.{Went}
 use Rattle.paired.proofs.opening.Ends.{marked_is, marked_or_zero}
 use Rattle.paired.proofs.pair.Synced.{Here}
-use Rattle.paired.proofs.RecordLemmas.{length-records}
+use Rattle.paired.specs.lemmas.Records.{length-records}
 use Rattle.blob_device.proofs.general.Options.{none_or_value, some_of, some_there, the_some}
 
 each_at : (P : List ℕ → Type 0) (rs : List (List ℕ)) (p : ℕ) → AllByRecursion P rs → p < length rs → P (get_or rs p [])

@@ -31,7 +31,7 @@ use Rattle.paired.proofs.next.Says.{Says, went_of, goes_of}
 use Rattle.paired.proofs.next.Turn.{Sorted, on_ok, on_err, if_ok, item_left, item_records, fine, run_turned, run_ended, none_reads, values_entry, values_over, entries_other, stop_loses, stop_checked, sorted_checked, record_given, record_skipped, check_loses, check_checked, reads_stopped, reads_sorted, live_unread, entries_on, same_disk, turns}
 use Rattle.paired.proofs.next.Went.{Went, Goes, went_start, goes_start, went_then, goes_then, went_still, goes_still}
 use Rattle.paired.proofs.pair.Synced.{Here}
-use Rattle.paired.proofs.RecordLemmas.{length-records}
+use Rattle.paired.specs.lemmas.Records.{length-records}
 use Rattle.paired.proofs.ReplayLemmas.{given_stay, record_at}
 use Rattle.blob_device.proofs.general.Options.{none_or_value, some_of, some_there}
 

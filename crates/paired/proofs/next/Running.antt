@@ -5,7 +5,7 @@ use Rattle.std.proofs.lemmas.List.{take_all}
 use Rattle.blob_device.specs.Disk.{Key, Blob, MayLeave, past, reads}
 use Rattle.blob_device.specs.Opened.{OpenedList}
 use Rattle.blob_device.specs.Timeline.{Timeline, disk, Each}
-use Rattle.blob_device.proofs.Moments.{always_now}
+use Rattle.blob_device.specs.lemmas.Moments.{always_now}
 use Rattle.sealed_pages.specs.declared.page_blob.PageBlob.{PageBlob}
 use Rattle.sealed_pages.specs.ChanceSeal.{NoChanceSeal, Leaves}
 use Rattle.sealed_pages.specs.Cutting.{IsAtRest}
@@ -32,7 +32,7 @@ use Rattle.paired.proofs.next.Went.{Went, none_as}
 use Rattle.paired.proofs.pair.Removing.{opened_stays}
 use Rattle.paired.proofs.pair.Sections.{other_partition}
 use Rattle.paired.proofs.pair.Synced.{Here, store_stays}
-use Rattle.paired.proofs.RecordLemmas.{records-front, records-enough, length-records}
+use Rattle.paired.specs.lemmas.Records.{records-front, records-enough, length-records}
 use Rattle.meta_store.specs.Store.{contents_of}
 use Rattle.blob_device.proofs.general.Options.{none_or_value, some_of, some_there}
 

@@ -7,7 +7,7 @@ use Rattle.std.proofs.lemmas.Bool.{cases_lt, cases_eq, cases_Bool}
 use Rattle.blob_device.specs.Disk.{Key, Blob, Disk, MayLeave, reads}
 use Rattle.blob_device.specs.Opened.{OpenedList, reads_of}
 use Rattle.blob_device.specs.Timeline.{Timeline, disk}
-use Rattle.blob_device.proofs.Moments.{always_now}
+use Rattle.blob_device.specs.lemmas.Moments.{always_now}
 use Rattle.sealed_pages.specs.declared.page_blob.PageBlob.{PageBlob}
 use Rattle.sealed_pages.specs.Entries.{ReadsAtMost}
 use Rattle.sealed_pages.specs.Reading.{Unchanged}
@@ -18,7 +18,7 @@ use Rattle.section_manager.specs.declared.unsealed.WriteFactory.{WriteFactory}
 use Rattle.section_manager.specs.Refusing.{HasFailed}
 use Rattle.section_manager.specs.Sections.{section_key, key_of, IsHeld}
 use Rattle.section_manager.specs.Setting.{Setting}
-use Rattle.section_manager.proofs.sections.KeyLemmas.{key_injective}
+use Rattle.section_manager.specs.lemmas.Keys.{key_injective}
 use Rattle.segments.specs.FixedReplay.{Walk, IsLeft, IsWalk, Gives, Stops, kept_of, kept_bytes}
 use Rattle.segments.proofs.FixedWriteLemmas.{ArePages}
 use Rattle.meta_store.specs.Blobs.{blob_of}
@@ -37,7 +37,7 @@ use Rattle.paired.proofs.next.Went.{Went, went_still, walk_kept, none_as}
 use Rattle.paired.proofs.pair.Moments.{no_index}
 use Rattle.paired.proofs.pair.Sections.{glob_kept}
 use Rattle.paired.proofs.pair.Synced.{Here}
-use Rattle.paired.proofs.RecordLemmas.{length-records}
+use Rattle.paired.specs.lemmas.Records.{length-records}
 use Rattle.paired.proofs.ReplayLemmas.{Turns, given_stay, due_after, due_skipped, due_after_stop, due_after_check, end_sorted, end_stopped, end_checked}
 use Rattle.blob_device.proofs.general.Options.{none_in, none_or_value, some_there}
 

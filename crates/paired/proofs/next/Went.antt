@@ -4,7 +4,7 @@ use Rattle.std.proofs.Common.{inl, refl, sym, ◌∙◌, ap, subst}
 use Rattle.blob_device.specs.Disk.{Key, Disk}
 use Rattle.blob_device.specs.Opened.{Opened, OpenedList}
 use Rattle.blob_device.specs.Timeline.{Timeline, disk, Always, Each}
-use Rattle.blob_device.proofs.Moments.{always_start, always_then, always_weaker, always_now}
+use Rattle.blob_device.specs.lemmas.Moments.{always_start, always_then, always_weaker, always_now}
 use Rattle.sealed_pages.specs.declared.page_blob.PageBlob.{PageBlob}
 use Rattle.sealed_pages.specs.Shown.{shown}
 use Rattle.sealed_pages.specs.Buffer.{bytes_of}
@@ -13,7 +13,7 @@ use Rattle.section_manager.specs.declared.buffer.SectionBuffer as buffer
 use Rattle.section_manager.specs.Setting.{Setting}
 use Rattle.section_manager.specs.Sections.{section_key, key_of, IsHeld, StandsOver}
 use Rattle.segments.specs.FixedReplay.{Walk, IsAhead, IsIn, SameWalk, SameItems, IsSameOrCut, KeepsSections, KeepsFloors, KeepsBytes, KeepsItems, IsWalk, WalksOver, Replaying, LeavesNoMore}
-use Rattle.segments.proofs.FixedOwed.{same_items, items_then, same_or_cut, cut_then}
+use Rattle.segments.specs.lemmas.FixedOwed.{same_items, items_then, same_or_cut, cut_then}
 use Rattle.segments.proofs.FixedWalks.{same_bytes}
 use Rattle.segments.proofs.FixedWalksOn.{replaying_start}
 use Rattle.blob_device.proofs.general.Options.{same_some, some_of, some_there}

@@ -23,7 +23,7 @@ use Rattle.paired.specs.Places.{Follow, end_of, last_end}
 use Rattle.paired.specs.Records.{Entry, is_sound, front, entry_of}
 use Rattle.paired.proofs.KeptLemmas.{EndsBy, follow_least, follow_ends, entry_same, settled_bytes, sound_parts, sound_settled, stored_entries}
 use Rattle.paired.proofs.pair.Synced.{unmarked_zero}
-use Rattle.paired.proofs.RecordLemmas.{map-same, front-take}
+use Rattle.paired.specs.lemmas.Records.{map-same, front-take}
 use Rattle.blob_device.proofs.general.Lists.{all_take, all_with}
 use Rattle.blob_device.proofs.general.Options.{none_or_value}
 

@@ -9,7 +9,7 @@ use Rattle.std.proofs.lemmas.Map.Entries.{lookup_tail}
 use Rattle.std.proofs.lemmas.List.Elements.{recursion_from_All, Contains-append_right, Contains-append_cases, Contains-push_cases}
 use Rattle.blob_device.specs.Disk.{Key, Blob, Disk, settled_at}
 use Rattle.blob_device.specs.Timeline.{Timeline, disk, Always, Each}
-use Rattle.blob_device.proofs.Moments.{always_then, always_weaker, always_now}
+use Rattle.blob_device.specs.lemmas.Moments.{always_then, always_weaker, always_now}
 use Rattle.section_manager.specs.Lasting.{IsSettling}
 use Rattle.paired.proofs.tracking.Lemmas.{apart}
 

@@ -6,7 +6,7 @@ use Rattle.std.specs.List.{AllByRecursion}
 use Rattle.std.proofs.lemmas.Bool.{cases_lt, cases_Bool}
 use Rattle.std.proofs.lemmas.Nat.{from_be_bytes-to_be_bytes_8}
 use Rattle.blob_device.specs.Disk.{Key, Blob, Disk, Image, IsCrashOf, MayLeave, past, reads}
-use Rattle.blob_device.proofs.Puts.{same_or_other}
+use Rattle.blob_device.specs.lemmas.Puts.{same_or_other}
 use Rattle.sealed_pages.specs.ChanceSeal as pages
 use Rattle.sealed_pages.specs.SealedPrefix.{sealed_prefix, Prefix}
 use Rattle.section_manager.specs.Fronts.{IsFront}
@@ -23,7 +23,7 @@ use Rattle.paired.specs.Pair.{AreApart}
 use Rattle.paired.specs.Places.{Follow, last_end}
 use Rattle.paired.specs.Records.{Entry, records, is_sound, front, entry_of}
 use Rattle.paired.proofs.opening.Ends.{IsGoodAt, KeptBy, KeptHere, same_order, any_order, stored_alone, AreTrueOf, remarked_keeps, as_before, without_records, index_removed, records_cut, values_cut, sections_kept, markers_moved, sound_below, follow_last_end, front_is_sound, front_cut}
-use Rattle.paired.proofs.RecordLemmas.{records-front, records-enough}
+use Rattle.paired.specs.lemmas.Records.{records-front, records-enough}
 
 -- a key is that of a section of the partition that P names, or of none
 number : (partition : List ℕ) (P : ℕ → Bool) (q : Key) (found : (s : ℕ) × (s < 2 ^ 64) × IsTrue (P s) × (q ≡ section_key partition s)) → from_be_bytes w64 q.1 ≡ found.0

@@ -5,7 +5,7 @@ use Rattle.std.proofs.lemmas.Bool.{cases_lt, eqb-true, ltb-true}
 use Rattle.std.proofs.lemmas.List.{take_all, take-take}
 use Rattle.blob_device.specs.Disk.{AbsentIsNothing, Image, Key}
 use Rattle.blob_device.specs.Timeline.{Timeline, disk, Always}
-use Rattle.blob_device.proofs.Moments.{always_weaker}
+use Rattle.blob_device.specs.lemmas.Moments.{always_weaker}
 use Rattle.paired.specs.Kept.{Layout, Markers, kept_by}
 use Rattle.paired.specs.Opening.{as_read, MayBeOpened, Relation, UpTo, IsUpTo, KeepsBy, KeepsAllBy, RecallsAloneBy}
 use Rattle.paired.specs.Openings.{Recovers, committed}

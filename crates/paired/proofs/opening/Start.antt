@@ -8,7 +8,7 @@ use Rattle.std.proofs.lemmas.List.Elements.{Contains-push}
 use Rattle.std.proofs.lemmas.Nat.{from_be_bytes-to_be_bytes_8}
 use Rattle.blob_device.specs.Disk.{Key, Blob, Disk, Image, IsCrashOf, MayLeave, past, reads, put, settled_at}
 use Rattle.blob_device.specs.Change.{Make, during}
-use Rattle.blob_device.proofs.Puts.{same_or_other, put_same, put_other}
+use Rattle.blob_device.specs.lemmas.Puts.{same_or_other, put_same, put_other}
 use Rattle.sealed_pages.specs.ChanceSeal as pages
 use Rattle.sealed_pages.specs.SealedPrefix.{sealed_prefix}
 use Rattle.section_manager.specs.Lasting.{IsSettling}

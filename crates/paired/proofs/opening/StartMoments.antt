@@ -4,7 +4,7 @@ use Rattle.std.proofs.Common.{inl, inr, refl, sym, ◌∙◌, ap, subst, arith}
 use Rattle.blob_device.specs.Disk.{Key, Blob, Disk, reads, settled_at}
 use Rattle.blob_device.specs.Opened.{OpenedList}
 use Rattle.blob_device.specs.Timeline.{Timeline, disk, Always, Each}
-use Rattle.blob_device.proofs.Moments.{always_now, always_then, always_weaker}
+use Rattle.blob_device.specs.lemmas.Moments.{always_now, always_then, always_weaker}
 use Rattle.section_manager.specs.Lasting.{IsSettling}
 use Rattle.section_manager.specs.Refusing.{IsForeign}
 use Rattle.section_manager.specs.Sections.{section_key}

@@ -30,7 +30,7 @@ use Rattle.paired.specs.Records.{each_below, records}
 use Rattle.paired.proofs.BoundaryLemmas.{content_there}
 use Rattle.paired.proofs.KeptLemmas.{EndsBy, follow_ends, sound_parts}
 use Rattle.paired.proofs.opening.Start.{index_reads}
-use Rattle.paired.proofs.RecordLemmas.{length-records}
+use Rattle.paired.specs.lemmas.Records.{length-records}
 use Rattle.blob_device.proofs.general.Numbers.{times_next}
 use Rattle.blob_device.proofs.general.Options.{value_of}
 use Rattle.blob_device.proofs.general.Lists.{all_at}

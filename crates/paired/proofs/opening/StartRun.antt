@@ -29,7 +29,7 @@ use Rattle.paired.specs.Replaying.{Run, HasGiven, IsChecked, IsDue, IsVouchedFor
 use Rattle.paired.proofs.opening.Ends.{marked_is}
 use Rattle.paired.proofs.opening.StartRefusals.{last_is_record, records_end}
 use Rattle.paired.proofs.pair.Synced.{unmarked_zero}
-use Rattle.paired.proofs.RecordLemmas.{front-take, length-records}
+use Rattle.paired.specs.lemmas.Records.{front-take, length-records}
 use Rattle.blob_device.proofs.general.Options.{none_or_value}
 
 -- the floor that a map gives is the marker, where it has the markers

@@ -9,7 +9,7 @@ use Rattle.paired.specs.Opening.{IsLawful}
 use Rattle.paired.specs.Openings.{some_sound, up_to_last, within, lowered, inferred, inferred_at_most, checkpointed, tracked, tracked_at_most, KeepsFirst}
 use Rattle.paired.specs.Records.{front}
 use Rattle.paired.proofs.KeptLemmas.{stored_entries}
-use Rattle.paired.proofs.RecordLemmas.{front-take}
+use Rattle.paired.specs.lemmas.Records.{front-take}
 use Rattle.paired.proofs.opening.Ends.{front_lower, front_of_first, sound_below}
 use Rattle.blob_device.proofs.general.Lists.{all_take}
 

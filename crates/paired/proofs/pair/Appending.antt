@@ -14,7 +14,7 @@ use Rattle.paired.specs.Records.{Entry, each_below, records, is_sound, entry_of}
 use Rattle.paired.specs.Kept.{Layout}
 use Rattle.paired.specs.Holding.{Facts, list_in, AreGood}
 use Rattle.paired.proofs.FrameLemmas.{bytes_at-added, length-frame}
-use Rattle.paired.proofs.RecordLemmas.{each_below-same, map-same}
+use Rattle.paired.specs.lemmas.Records.{each_below-same, map-same}
 use Rattle.paired.proofs.KeptLemmas.{sound_parts, sound_from, sound_settled, entry_same}
 use Rattle.paired.proofs.pair.Holding.{IsMore}
 use Rattle.blob_device.proofs.general.Lists.{all_by}

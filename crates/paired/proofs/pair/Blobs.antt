@@ -9,7 +9,7 @@ use Rattle.paired.specs.glob.Lasting.{Outlasts}
 use Rattle.paired.specs.Records.{records}
 use Rattle.paired.specs.Kept.{Layout}
 use Rattle.paired.specs.Holding.{Facts, IsLasting, IsFading, LeavesNoRecords, ValuesStand}
-use Rattle.paired.proofs.RecordLemmas.{records-front}
+use Rattle.paired.specs.lemmas.Records.{records-front}
 
 -- a blob under removal was there, or unsure
 pub again : (t u : Bool) → IsTrue (t || (t || u)) → IsTrue (t || u)

@@ -4,7 +4,7 @@ use Rattle.std.proofs.lemmas.Bool.Decides.{eqb_tells}
 use Rattle.std.proofs.Math.Seq.{take-length, take-append_seam}
 use Rattle.blob_device.specs.Disk.{Key, Blob, Disk, longest}
 use Rattle.blob_device.specs.Timeline.{Timeline, disk, Always, OnlyAt}
-use Rattle.blob_device.proofs.Moments.{always_now}
+use Rattle.blob_device.specs.lemmas.Moments.{always_now}
 use Rattle.section_manager.specs.Lasting.{IsGoing}
 use Rattle.section_manager.specs.Sections.{section_key}
 use Rattle.meta_store.specs.Crashes as metadata

@@ -39,7 +39,7 @@ use Rattle.paired.specs.Kept.{Layout, HasNoFloor, IsMarked}
 use Rattle.paired.specs.Holding.{Facts, AreGood, IsLasting, IndexStands, LeavesNoRecords, ValuesStand, AreTrue, Holding}
 use Rattle.paired.proofs.GlobLemmas.{buffers, outlasts_of, serves_of}
 use Rattle.paired.proofs.KeptLemmas.{follow_least}
-use Rattle.paired.proofs.RecordLemmas.{length-records}
+use Rattle.paired.specs.lemmas.Records.{length-records}
 use Rattle.paired.proofs.pair.Blobs.{values_of, lasting_none}
 use Rattle.paired.proofs.pair.Holding.{no_bytes}
 use Rattle.meta_store.specs.Pairs.{empty_map}

@@ -22,7 +22,7 @@ use Rattle.paired.specs.Kept.{Layout, Markers, MarkerMap, IsMarked, marker_of, c
 use Rattle.paired.specs.Crashes.{IsPrefix, WasThere, NoChanceSeal, Keeps, Leaves}
 use Rattle.paired.specs.Holding.{Facts, list_in, AreGood, IsLasting, IsFading, IndexStands, LeavesNoRecords, ValuesStand, SectionStands, AreTrue, Holding}
 use Rattle.section_manager.proofs.buffers.NothingSealed.{nothing_sealed}
-use Rattle.paired.proofs.RecordLemmas.{length-records, records-front, records-enough}
+use Rattle.paired.specs.lemmas.Records.{length-records, records-front, records-enough}
 use Rattle.paired.proofs.KeptLemmas.{kept_prefix, marker_sound, stored_entries, settled_length}
 use Rattle.blob_device.proofs.general.Lists.{all_by, all_take}
 

@@ -3,10 +3,10 @@ use Rattle.std.proofs.Common.{◌≡◌, ◌≢◌, ◌⊎◌, inl, inr, ℕ, �
 use Rattle.std.proofs.lemmas.Bool.{cases_eq}
 use Rattle.blob_device.specs.Disk.{Key, Blob, Disk, longest}
 use Rattle.blob_device.specs.Timeline.{Timeline, disk, Always}
-use Rattle.blob_device.proofs.Moments.{always_now, always_then, always_weaker}
+use Rattle.blob_device.specs.lemmas.Moments.{always_now, always_then, always_weaker}
 use Rattle.section_manager.specs.Lasting.{IsGoing}
 use Rattle.section_manager.specs.Sections.{section_key}
-use Rattle.section_manager.proofs.sections.KeyLemmas.{key_injective}
+use Rattle.section_manager.specs.lemmas.Keys.{key_injective}
 use Rattle.meta_store.specs.declared.error.Side.{Side}
 use Rattle.meta_store.specs.declared.error.Side.TheVariants.{Left, Right}
 use Rattle.meta_store.specs.Blobs.{blob_of}

@@ -33,7 +33,7 @@ use Rattle.paired.specs.Kept.{Layout, MarkerMap, IsMarked, marker_of}
 use Rattle.paired.specs.Pair.{Pair, synced_length, HasNoBytes, length_of, records_of, list_of, IsPairOn, IsSoundOn, HasSettled, AreMarkers, AreWhole, IsPair}
 use Rattle.paired.specs.Places.{Follow, end_of}
 use Rattle.paired.specs.Records.{records, entries_of, is_sound}
-use Rattle.paired.proofs.RecordLemmas.{length-records}
+use Rattle.paired.specs.lemmas.Records.{length-records}
 use Rattle.meta_store.specs.declared.copy.Contents.{Contents}
 use Rattle.blob_device.proofs.general.Options.{none_or_value}
 

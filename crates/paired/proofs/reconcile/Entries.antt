@@ -12,7 +12,7 @@ use Rattle.section_manager.specs.declared.unsealed.WriteFactory.{WriteFactory}
 use Rattle.section_manager.specs.Lasting.{EntriesLeave}
 use Rattle.section_manager.specs.Sections.{Sections, section_key, key_of, IsHeld, IsKeyOf}
 use Rattle.section_manager.specs.Setting.{Setting}
-use Rattle.section_manager.proofs.sections.KeyLemmas.{key_injective}
+use Rattle.section_manager.specs.lemmas.Keys.{key_injective}
 use Rattle.segments.specs.FixedLists.{Lists}
 use Rattle.segments.specs.FixedLists as fixed
 use Rattle.segments.specs.FixedReplay.{Walk, IsDrained}

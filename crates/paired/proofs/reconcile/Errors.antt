@@ -34,7 +34,7 @@ use Rattle.paired.proofs.GlobLemmas.{section_counted}
 use Rattle.paired.proofs.KeptLemmas.{sound_parts}
 use Rattle.paired.proofs.opening.Ends.{marked_is, marked_or_zero}
 use Rattle.paired.proofs.pair.Failing.{failed_before}
-use Rattle.paired.proofs.RecordLemmas.{last_end_at, length-records, no_end}
+use Rattle.paired.specs.lemmas.Records.{last_end_at, length-records, no_end}
 use Rattle.paired.proofs.reconcile.Start.{Drained, GaveBack, opening, none_left, walk_unfailed, end_of, given_all, given_to, given_good, over_records}
 use Rattle.blob_device.proofs.general.Options.{none_or_value}
 use Rattle.blob_device.proofs.general.Results.{err_with}

@@ -4,7 +4,7 @@ use Rattle.std.specs.Prelude.{is_some, ◌≢◌}
 use Rattle.blob_device.specs.Disk.{Key, Blob, Disk, MayLeave, reads, nothing}
 use Rattle.blob_device.specs.Opened.{OpenedList}
 use Rattle.blob_device.specs.Timeline.{Timeline, disk, Each}
-use Rattle.blob_device.proofs.Moments.{always_now}
+use Rattle.blob_device.specs.lemmas.Moments.{always_now}
 use Rattle.sealed_pages.specs.declared.page_blob.PageBlob.{PageBlob}
 use Rattle.sealed_pages.specs.declared.write_blob.WriteBlob.{WriteBlob}
 use Rattle.section_manager.specs.declared.buffer.SectionBuffer as buffer
@@ -12,7 +12,7 @@ use Rattle.section_manager.specs.declared.unsealed.WriteFactory.{WriteFactory}
 use Rattle.section_manager.specs.Sections.{Sections, section_key, key_of, IsHeld, IsKeyOf, SameBounds}
 use Rattle.section_manager.specs.Setting.{Setting}
 use Rattle.section_manager.specs.unsealed.Buffer.{count_of, is_unsettled}
-use Rattle.section_manager.proofs.sections.KeyLemmas.{key_injective}
+use Rattle.section_manager.specs.lemmas.Keys.{key_injective}
 use Rattle.segments.specs.FixedLists.{Lists, IsJournal, IsProven}
 use Rattle.segments.specs.FixedLists as fixed
 use Rattle.meta_store.specs.declared.error.Side.{Side}
@@ -34,7 +34,7 @@ use Rattle.paired.specs.Records.{records}
 use Rattle.paired.proofs.GlobLemmas.{same_bytes}
 use Rattle.paired.proofs.pair.Sections.{glob_kept}
 use Rattle.paired.proofs.pair.Stays.{journal_stays}
-use Rattle.paired.proofs.RecordLemmas.{length-records, records-take}
+use Rattle.paired.specs.lemmas.Records.{length-records, records-take}
 use Rattle.paired.proofs.reconcile.Resting.{Resting, MarksRest, known_of, index_number, values_number, index_key, values_key, none_stored}
 use Rattle.paired.proofs.Ends.{Ends, Between, RecordsCut, ValuesCut, ValuesRemoved, none_of_not, not_of_none}
 use Rattle.paired.proofs.reconcile.Phases.{bare_of, index_cut_only, values_cut_only, values_still}

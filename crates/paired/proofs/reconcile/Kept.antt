@@ -32,7 +32,7 @@ use Rattle.paired.proofs.GlobLemmas.{section_counted}
 use Rattle.paired.proofs.KeptLemmas.{EndsBy, follow_ends, sound_parts, sound_settled, settled_bytes, entry_same}
 use Rattle.paired.proofs.opening.Ends.{follow_first, follow_last_end, front_is_sound, marked_is, marked_or_zero}
 use Rattle.paired.proofs.pair.Synced.{end_within}
-use Rattle.paired.proofs.RecordLemmas.{map-same}
+use Rattle.paired.specs.lemmas.Records.{map-same}
 use Rattle.paired.proofs.reconcile.Resting.{value_idle, none_of}
 use Rattle.paired.proofs.reconcile.Start.{Drained, GaveBack, end_of as ending_of, given_all, given_to, given_whole, over_stored, over_sound, kept_given, kept_stored}
 use Rattle.paired.proofs.Ends.{none_of_not, not_of_none}

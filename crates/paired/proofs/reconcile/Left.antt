@@ -3,7 +3,7 @@ use Rattle.std.proofs.Common.{◌≡◌, inl, inr, ℕ, zero, suc, ◌<◌, ◌�
 use Rattle.std.specs.Prelude.{⊤, is_some}
 use Rattle.blob_device.specs.Disk.{Key, Disk}
 use Rattle.blob_device.specs.Timeline.{Timeline, disk, Always}
-use Rattle.blob_device.proofs.Moments.{always_then, always_weaker, always_now}
+use Rattle.blob_device.specs.lemmas.Moments.{always_then, always_weaker, always_now}
 use Rattle.sealed_pages.specs.declared.page_blob.PageBlob.{PageBlob}
 use Rattle.sealed_pages.specs.Reading.{Unchanged}
 use Rattle.section_manager.specs.Sections.{IsHeld}
@@ -12,7 +12,7 @@ use Rattle.paired.specs.Crashes.{IsBlobOf, IsCopy, IsIndexOf, IsOwn, IsValuesOf,
 use Rattle.paired.specs.Opening.{MayBeOpened, Same, Recalls, RecallsAlone}
 use Rattle.paired.specs.Pair.{AreApart}
 use Rattle.paired.specs.Replaying.{Run, IsAllKept, IsClean}
-use Rattle.section_manager.proofs.sections.KeyLemmas.{key_injective}
+use Rattle.section_manager.specs.lemmas.Keys.{key_injective}
 use Rattle.paired.proofs.opening.Ends.{same_order}
 use Rattle.paired.proofs.Steps.{Stay, stay_fewer, both_always, Step, no_step, step_then, step_wider, order_fewer, FirstKinds, LaterKinds, Ascends, ascend_start, ascend_then}
 use Rattle.blob_device.proofs.general.Options.{none_or_value}

@@ -26,7 +26,7 @@ use Rattle.paired.specs.Places.{last_end}
 use Rattle.paired.specs.Replaying.{Run, marker, records_given}
 use Rattle.paired.proofs.GlobLemmas.{buffers}
 use Rattle.paired.proofs.opening.Ends.{marked_is, marked_or_zero}
-use Rattle.paired.proofs.RecordLemmas.{length-records}
+use Rattle.paired.specs.lemmas.Records.{length-records}
 use Rattle.paired.proofs.reconcile.Resting.{index_number, all_of, values_key}
 use Rattle.paired.proofs.reconcile.Start.{Drained, GaveBack, opening, walk_unfailed, ends_of}
 use Rattle.paired.proofs.Ends.{RecordsCut, ValuesCut, ValuesRemoved, not_of_none}

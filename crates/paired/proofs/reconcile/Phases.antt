@@ -22,7 +22,7 @@ use Rattle.section_manager.specs.Sections.{Sections, section_key, key_of, IsHeld
 use Rattle.section_manager.specs.Setting.{Setting}
 use Rattle.section_manager.specs.unsealed.Buffer.{content_of, count_of}
 use Rattle.section_manager.specs.unsealed.Laws.{counted}
-use Rattle.section_manager.proofs.sections.KeyLemmas.{key_injective}
+use Rattle.section_manager.specs.lemmas.Keys.{key_injective}
 use Rattle.segments.specs.FixedLists.{Lists}
 use Rattle.segments.specs.FixedLists as fixed
 use Rattle.value_codec.specs.declared.key.Key8.{Key8}
@@ -43,7 +43,7 @@ use Rattle.paired.specs.Places.{last_end}
 use Rattle.paired.specs.Reconciling.{CutTo, EndOf, Shortening}
 use Rattle.paired.specs.Records.{records, front}
 use Rattle.paired.proofs.opening.Phases.{IsPhase, IsBack, IsCut, IsTrimmed, IsBare, HasMarkers, not_copy, records_by, values_by}
-use Rattle.paired.proofs.RecordLemmas.{length-records}
+use Rattle.paired.specs.lemmas.Records.{length-records}
 use Rattle.paired.proofs.reconcile.Resting.{Resting, Known, MarksRest, known_no_chance, absent_of, index_number, values_number, index_key, values_key, paged, all_of, value_idle, index_settles, index_rest, index_absent, stored_at, none_stored, values_rest, values_absent, frames_at, copy_rest, rests_no_chance, rest_left, rest_there, left_bare, reads_there, reads_absent}
 use Rattle.paired.proofs.Ends.{Bare, Bounds, CutsTo, Ends}
 use Rattle.blob_device.proofs.general.Numbers.{item_ends}

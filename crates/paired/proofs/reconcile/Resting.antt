@@ -45,7 +45,7 @@ use Rattle.paired.proofs.GlobLemmas.{buffers, idle_whole}
 use Rattle.paired.proofs.KeptLemmas.{sound_parts}
 use Rattle.paired.proofs.opening.Laws.{left_as_read}
 use Rattle.paired.proofs.pair.Facts.{not_there}
-use Rattle.paired.proofs.RecordLemmas.{length-records}
+use Rattle.paired.specs.lemmas.Records.{length-records}
 use Rattle.blob_device.proofs.general.Options.{none_or_value, some_same, value_of}
 
 -- ---- blobs

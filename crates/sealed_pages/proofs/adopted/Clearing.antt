@@ -5,8 +5,8 @@ use Rattle.blob_device.specs.declared.error.DevError.{DevError}
 use Rattle.blob_device.specs.Change.{Write, Resize, Settle, during, done, FailedTo, written, resized}
 use Rattle.blob_device.specs.Disk.{Key, Blob, Outside}
 use Rattle.blob_device.specs.Timeline.{Timeline, disk, Passes, Always, OnlyAt}
-use Rattle.blob_device.proofs.Bytes.{outside_push}
-use Rattle.blob_device.proofs.Moments.{always_now, only_start}
+use Rattle.blob_device.specs.lemmas.Bytes.{outside_push}
+use Rattle.blob_device.specs.lemmas.Moments.{always_now, only_start}
 use Rattle.sealed_pages.specs.Buffer.{pages_of}
 use Rattle.sealed_pages.specs.Cutting.{IsAtRest}
 use Rattle.sealed_pages.specs.Flushing.{no_slot}

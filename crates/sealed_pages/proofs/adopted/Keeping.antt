@@ -5,7 +5,7 @@ use Rattle.blob_device.specs.declared.error.DevError.{DevError}
 use Rattle.blob_device.specs.Disk.{Key, Blob}
 use Rattle.blob_device.specs.Change.{Change, Write, Resize, Settle, written, resized}
 use Rattle.blob_device.specs.Timeline.{Timeline, disk, Passes}
-use Rattle.blob_device.proofs.Moments.{ok_blob, only_start}
+use Rattle.blob_device.specs.lemmas.Moments.{ok_blob, only_start}
 use Rattle.sealed_pages.specs.ChanceSeal.{Leaves, Sealing}
 use Rattle.sealed_pages.specs.Flushing.{next_slot, no_slot, Data, Sound, Covers, Held, Stands, Ready, KeptContent, Kept, IsClean}
 use Rattle.sealed_pages.specs.Slots.{named_length, slot_length}

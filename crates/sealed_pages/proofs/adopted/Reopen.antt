@@ -6,12 +6,12 @@ use Rattle.blob_device.specs.Disk.{Key, Blob, Disk, settled_at}
 use Rattle.blob_device.specs.Change.{Make, during, done, FailedTo}
 use Rattle.blob_device.specs.Timeline.{Timeline, disk, Passes, OnlyAt}
 use Rattle.blob_device.specs.Opened.{Opened, OpenedList, entered}
-use Rattle.blob_device.proofs.Moments.{always_now, always_then, always_weaker, only_start, only_on, ok_blob, err_has}
-use Rattle.blob_device.proofs.Puts.{put_other}
+use Rattle.blob_device.specs.lemmas.Moments.{always_now, always_then, always_weaker, only_start, only_on, ok_blob, err_has}
+use Rattle.blob_device.specs.lemmas.Puts.{put_other}
 use Rattle.sealed_pages.specs.Entries.{IsOpenAt}
 use Rattle.sealed_pages.specs.Reading.{Unchanged, OnlyRead}
 use Rattle.sealed_pages.specs.Reopening.{OnlySettles, StaysOpen}
-use Rattle.sealed_pages.proofs.EntryLemmas.{open_some, open_entered}
+use Rattle.sealed_pages.specs.lemmas.Entries.{open_some, open_entered}
 use Rattle.sealed_pages.proofs.looking.Looking.{content_length}
 
 make_during : (b : Blob) → b.there ≡ true → during Make b ≡ b

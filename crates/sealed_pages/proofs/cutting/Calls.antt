@@ -6,7 +6,7 @@ use Rattle.blob_device.specs.Change.{Change, Write, Resize, Settle, written, res
 use Rattle.blob_device.specs.Guards.{Avoids, Makes, Sealed}
 use Rattle.blob_device.specs.Timeline.{Timeline, disk, Passes, Always, OnlyAt}
 use Rattle.blob_device.proofs.GuardsLemmas.{sealed_start, sealed_on}
-use Rattle.blob_device.proofs.Moments.{ok_blob, only_start}
+use Rattle.blob_device.specs.lemmas.Moments.{ok_blob, only_start}
 use Rattle.sealed_pages.specs.ChanceSeal.{NoChanceSeal, Leaves, Sealing}
 use Rattle.sealed_pages.specs.Cutting.{IsAtRest}
 use Rattle.sealed_pages.specs.Flushing.{with_slot, no_slot, Covers, Held}

@@ -3,11 +3,11 @@ use Rattle.std.proofs.Common.{◌≡◌, ℕ, ◌+◌, ◌≤◌, Option, Some, 
 use Rattle.std.specs.Option.{option_map}
 use Rattle.blob_device.specs.Disk.{Key}
 use Rattle.blob_device.specs.Opened.{Opened, OpenedList, updated, with_len, one_more_read, reads_of}
-use Rattle.blob_device.proofs.OpenedLemmas.{updated_other}
-use Rattle.blob_device.proofs.Puts.{put_same}
+use Rattle.blob_device.specs.lemmas.Opened.{updated_other}
+use Rattle.blob_device.specs.lemmas.Puts.{put_same}
 use Rattle.sealed_pages.specs.Cutting.{FewReads}
 use Rattle.sealed_pages.specs.Entries.{IsOpenAt, NoReads}
-use Rattle.sealed_pages.proofs.EntryLemmas.{open_updated}
+use Rattle.sealed_pages.specs.lemmas.Entries.{open_updated}
 
 -- a blob that was opened, and then resized
 pub resized_open : (k : Key) (old new : OpenedList) (m : ℕ) → new ≡ updated old k (with_len m) → IsSome (old k) → IsOpenAt new k m

@@ -15,7 +15,7 @@ use Rattle.sealed_pages.specs.SealedPrefix.{sealed_prefix}
 use Rattle.sealed_pages.specs.Slots.{page_length, best_slot, slot_bytes}
 use Rattle.sealed_pages.specs.Unrecovered.{SparesFront}
 use Rattle.sealed_pages.specs.View.{page_at, slot_at}
-use Rattle.sealed_pages.proofs.EntryLemmas.{no_reads_then}
+use Rattle.sealed_pages.specs.lemmas.Entries.{no_reads_then}
 use Rattle.sealed_pages.proofs.Fronts.{front_page, front_then}
 use Rattle.sealed_pages.proofs.slots.PageCalls.{alone_then}
 use Rattle.sealed_pages.proofs.cutting.Truncating.{rose_since}

@@ -10,7 +10,7 @@ use Rattle.blob_device.specs.declared.error.DevError.TheVariants.{Fault}
 use Rattle.sealed_pages.specs.Entries.{NoReads}
 use Rattle.sealed_pages.specs.Flushing.{Alone}
 use Rattle.sealed_pages.specs.Unrecovered.{SparesFront}
-use Rattle.sealed_pages.proofs.EntryLemmas.{no_reads_then, no_reads_same, no_reads_open}
+use Rattle.sealed_pages.specs.lemmas.Entries.{no_reads_then, no_reads_same, no_reads_open}
 use Rattle.sealed_pages.proofs.Fronts.{front_settle}
 use Rattle.sealed_pages.proofs.slots.PageCalls.{alone_start, alone_on}
 use Rattle.sealed_pages.proofs.cutting.Truncating.{rose_since}

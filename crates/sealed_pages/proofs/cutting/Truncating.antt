@@ -6,7 +6,7 @@ use Rattle.blob_device.specs.Change.{written, resized}
 use Rattle.blob_device.specs.Disk.{Key, Blob, Disk, settled_at}
 use Rattle.blob_device.specs.Counts.{Rose}
 use Rattle.blob_device.specs.Timeline.{Timeline, disk, OnlyAt}
-use Rattle.blob_device.proofs.Moments.{always_weaker}
+use Rattle.blob_device.specs.lemmas.Moments.{always_weaker}
 use Rattle.std.specs.Prelude.{IfOk, OnErr}
 use Rattle.std.specs.Result.{IsErr}
 use Rattle.blob_device.specs.Errors.{raised}

@@ -10,8 +10,8 @@ use Rattle.blob_device.specs.Disk.{Key, Disk, put}
 use Rattle.blob_device.specs.Change.{Look}
 use Rattle.blob_device.specs.Timeline.{Timeline, disk, Passes}
 use Rattle.blob_device.specs.Opened.{Opened, OpenedList}
-use Rattle.blob_device.proofs.Moments.{always_start, always_then, always_on, always_weaker, passes_after, ok_blob, err_has}
-use Rattle.blob_device.proofs.Puts.{put_self, put_same}
+use Rattle.blob_device.specs.lemmas.Moments.{always_start, always_then, always_on, always_weaker, passes_after, ok_blob, err_has}
+use Rattle.blob_device.specs.lemmas.Puts.{put_self, put_same}
 use Rattle.sealed_pages.proofs.slots.SlotLemmas.{length-bytes_at, get_or-bytes_at, whole_true, slot_length-le, slot_stands, slot_room, slot_named, zero_named}
 use Rattle.sealed_pages.specs.Entries.{IsOpenAt}
 use Rattle.sealed_pages.specs.Reading.{page_of, Unchanged}

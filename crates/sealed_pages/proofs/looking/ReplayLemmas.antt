@@ -20,7 +20,7 @@ use Rattle.sealed_pages.specs.View.{View, view}
 use Rattle.sealed_pages.proofs.adopted.Adopt.{get_or-data_from, length-data_from, place_in}
 use Rattle.sealed_pages.specs.Flushing.{Data}
 use Rattle.sealed_pages.proofs.looking.Looking.{part_view}
-use Rattle.sealed_pages.proofs.EntryLemmas.{reads_start, reads_then}
+use Rattle.sealed_pages.specs.lemmas.Entries.{reads_start, reads_then}
 use Rattle.sealed_pages.proofs.looking.ReadLemmas.{read_data, touched_upto}
 use Rattle.std.specs.Prelude.{OnErr}
 use Rattle.std.specs.Result.{IsErr}

@@ -8,7 +8,7 @@ use Rattle.blob_device.specs.declared.error.DevError.{DevError}
 use Rattle.blob_device.specs.Timeline.{Timeline, disk, Passes}
 use Rattle.blob_device.specs.Change.{Settle}
 use Rattle.blob_device.specs.Disk.{Key, Blob}
-use Rattle.blob_device.proofs.Moments.{only_start}
+use Rattle.blob_device.specs.lemmas.Moments.{only_start}
 use Rattle.sealed_pages.proofs.slots.SlotLemmas.{index_page, times_page, page_next}
 use Rattle.sealed_pages.proofs.slots.SealedBytes.{stands_leaves}
 use Rattle.sealed_pages.proofs.adopted.Repairing.{page_order}

@@ -8,7 +8,7 @@ use Rattle.std.proofs.lemmas.List.Elements.{All-nil, All-cons, All-weaker}
 use Rattle.blob_device.specs.Change.{Write, written}
 use Rattle.blob_device.specs.Disk.{Key, Blob}
 use Rattle.blob_device.specs.Timeline.{Timeline, disk, Passes}
-use Rattle.blob_device.proofs.Moments.{ok_blob}
+use Rattle.blob_device.specs.lemmas.Moments.{ok_blob}
 use Rattle.blob_device.specs.declared.error.DevError.{DevError}
 use Rattle.sealed_pages.specs.Cached.{full_pages, AreFull, IsCachedOf, AreCachedOf}
 use Rattle.sealed_pages.specs.Flushing.{Data, CoversFrom}

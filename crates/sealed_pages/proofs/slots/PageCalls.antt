@@ -8,7 +8,7 @@ use Rattle.blob_device.specs.declared.error.DevError.{DevError}
 use Rattle.blob_device.specs.Disk.{Key, Blob, Disk, past, settled_at}
 use Rattle.blob_device.specs.Change.{Change, Write, Settle, written}
 use Rattle.blob_device.specs.Timeline.{Timeline, disk, Passes, Always, OnlyAt}
-use Rattle.blob_device.proofs.Moments.{always_now, always_then, always_weaker, only_start, only_on, ok_blob}
+use Rattle.blob_device.specs.lemmas.Moments.{always_now, always_then, always_weaker, only_start, only_on, ok_blob}
 use Rattle.sealed_pages.specs.ChanceSeal.{Leaves}
 use Rattle.sealed_pages.specs.Flushing.{next_slot, last_slot, with_slot, Quiet, Data, Sound, Held, Stands, Flushed, Ready, PageFlushed, Alone, Wrote}
 use Rattle.sealed_pages.specs.Slots.{slot_bytes}

@@ -8,7 +8,7 @@ use Rattle.blob_device.specs.declared.error.DevError.{DevError}
 use Rattle.blob_device.specs.Disk.{Key, Blob, past}
 use Rattle.blob_device.specs.Change.{Change, Write, Resize, Settle, during, done, FailedTo, written, resized}
 use Rattle.blob_device.specs.Timeline.{Timeline, disk, Passes, OnlyAt}
-use Rattle.blob_device.proofs.Moments.{always_start, always_now, always_then, always_weaker}
+use Rattle.blob_device.specs.lemmas.Moments.{always_start, always_now, always_then, always_weaker}
 use Rattle.sealed_pages.specs.Contents.{AllSince, KeepsAll, AddsOnly}
 use Rattle.sealed_pages.specs.unsealed.Writing.{WriteBuffer, blob_key, bytes_of, size_of, is_idle, short_run}
 use Rattle.sealed_pages.proofs.unsealed.SparingLemmas.{any_call}

@@ -6,9 +6,9 @@ use Rattle.blob_device.specs.Change.{written}
 use Rattle.blob_device.specs.Disk.{Key, Blob, Outside, shortest, settled_at}
 use Rattle.blob_device.specs.Keeps.{Keeps}
 use Rattle.blob_device.specs.Timeline.{Timeline, disk, OnlyAt}
-use Rattle.blob_device.proofs.Bytes.{written_end}
+use Rattle.blob_device.specs.lemmas.Bytes.{written_end}
 use Rattle.blob_device.proofs.GuardsLemmas.{guards_settled}
-use Rattle.blob_device.proofs.Moments.{always_weaker, always_now}
+use Rattle.blob_device.specs.lemmas.Moments.{always_weaker, always_now}
 use Rattle.sealed_pages.specs.Sparing.{Lasts, Spares, Sparing, Keeping}
 use Rattle.sealed_pages.specs.unsealed.Writing.{WriteBuffer, bytes_of, run_of, Joins, HoldsOnly, with_bytes_put, Over, KeepsSettled}
 use Rattle.blob_device.specs.Lengths.{length-written}

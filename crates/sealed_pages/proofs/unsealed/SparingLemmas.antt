@@ -6,8 +6,8 @@ use Rattle.blob_device.specs.declared.error.DevError.{DevError}
 use Rattle.blob_device.specs.Disk.{Key, Blob, Outside, MayLeave, settled_at}
 use Rattle.blob_device.specs.Change.{Change, Write, Resize, Settle, during, done, FailedTo, written, resized}
 use Rattle.blob_device.specs.Timeline.{Timeline, disk, Passes, Always, OnlyAt}
-use Rattle.blob_device.proofs.Bytes.{outside_push}
-use Rattle.blob_device.proofs.Moments.{always_start, always_now, always_then, always_weaker, only_start, only_on, ok_blob, err_has}
+use Rattle.blob_device.specs.lemmas.Bytes.{outside_push}
+use Rattle.blob_device.specs.lemmas.Moments.{always_start, always_now, always_then, always_weaker, only_start, only_on, ok_blob, err_has}
 use Rattle.sealed_pages.specs.Sparing.{Lasts, SameByte, Spares, Sparing, LooseOnly}
 use Rattle.blob_device.specs.Lengths.{least_push, length-resized, length-written}
 use Rattle.blob_device.specs.Places.{resized_below, written_out}

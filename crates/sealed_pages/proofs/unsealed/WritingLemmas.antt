@@ -6,18 +6,18 @@ use Rattle.blob_device.specs.Disk.{Key, Blob, Outside, settled_at}
 use Rattle.blob_device.specs.Change.{Write, written}
 use Rattle.std.specs.Option.{option_map}
 use Rattle.blob_device.specs.Opened.{Opened, OpenedList, updated, with_len, one_more_read, reads_of, PartlyGrown}
-use Rattle.blob_device.proofs.OpenedLemmas.{updated_other}
-use Rattle.blob_device.proofs.Puts.{put_same}
+use Rattle.blob_device.specs.lemmas.Opened.{updated_other}
+use Rattle.blob_device.specs.lemmas.Puts.{put_same}
 use Rattle.blob_device.specs.Timeline.{Timeline, disk, Passes}
-use Rattle.blob_device.proofs.Bytes.{written_end}
-use Rattle.blob_device.proofs.Moments.{ok_blob}
+use Rattle.blob_device.specs.lemmas.Bytes.{written_end}
+use Rattle.blob_device.specs.lemmas.Moments.{ok_blob}
 use Rattle.sealed_pages.specs.Contents.{IsHad}
 use Rattle.sealed_pages.specs.Entries.{IsOpenAt, NoReads, ReadsAtMost}
 use Rattle.sealed_pages.specs.Sparing.{Lasts, Spares, Sparing}
 use Rattle.sealed_pages.proofs.unsealed.SparingLemmas.{sparing_then, sparing_weaker}
 use Rattle.sealed_pages.specs.unsealed.Writing.{WriteBuffer, blob_key, bytes_of, size_of, run_of, is_idle, is_unsettled, Joins, StaysBelow, with_bytes_put, Over}
 use Rattle.sealed_pages.proofs.HadLemmas.{had_rest}
-use Rattle.sealed_pages.proofs.EntryLemmas.{open_some, open_updated, no_reads_part, no_reads_updated, no_reads_resize, open_written, open_resized}
+use Rattle.sealed_pages.specs.lemmas.Entries.{open_some, open_updated, no_reads_part, no_reads_updated, no_reads_resize, open_written, open_resized}
 use Rattle.sealed_pages.proofs.WriteLemmas.{written_nothing, written_again, written_twice}
 use Rattle.blob_device.specs.Lengths.{length-written}
 

@@ -9,7 +9,7 @@ use Rattle.blob_device.specs.Counts.{Rose}
 use Rattle.blob_device.specs.Disk.{Key, Blob, Disk}
 use Rattle.blob_device.specs.Timeline.{disk}
 use Rattle.blob_device.specs.declared.device.Device as device
-use Rattle.blob_device.proofs.Moments.{always_now, always_start, always_weaker}
+use Rattle.blob_device.specs.lemmas.Moments.{always_now, always_start, always_weaker}
 use Rattle.sealed_pages.specs.Entries.{IsOpenAt}
 use Rattle.section_manager.specs.declared.buffer.SectionBuffer as buffer
 use Rattle.section_manager.specs.declared.journal.Error.{Error}
@@ -25,9 +25,9 @@ use Rattle.section_manager.specs.Raised.{raised}
 use Rattle.section_manager.specs.Refusing.{HasDamage, HasFailed, IsPruned}
 use Rattle.section_manager.specs.Sections.{Sections, section_key, key_of, IsCut, IsKnown, IsOver, IsSame, SameBounds}
 use Rattle.section_manager.specs.Setting.{Setting}
-use Rattle.section_manager.proofs.Seen.{failed_again, failed_later, failed_unpruned}
+use Rattle.section_manager.specs.lemmas.Seen.{failed_again, failed_later, failed_unpruned}
 use Rattle.section_manager.proofs.sections.CutLemmas.{CutCall, CutMade, CutTried, CutWalked, cut_moves, cut_new, cut_same, cut_tried_start, cutting_of, leaves_few, longer_none, not_below, raised_page, some_has}
-use Rattle.section_manager.proofs.sections.KeyLemmas.{keys_differ}
+use Rattle.section_manager.specs.lemmas.Keys.{keys_differ}
 use Rattle.section_manager.proofs.sections.RemoveLemmas.{gone_then, none_known, over_bounds, removing_start, same_then}
 use Rattle.section_manager.proofs.sections.SyncLemmas.{BufferLaws, key_is, moments_of, entries_of, over_replaced, same_moments, stands_before}
 use Rattle.section_manager.proofs.sections.TruncateLemmas.{leave_unread, removing_truncating, some_so, target_stays, truncating_moments, unread_then}

@@ -20,7 +20,7 @@ use Rattle.section_manager.specs.Refusing.{HasFailed, IsForeign}
 use Rattle.section_manager.specs.Sections.{Sections, section_key, key_of, IsHeld, IsKnown, IsOver}
 use Rattle.section_manager.specs.Setting.{Setting}
 use Rattle.section_manager.proofs.InitLemmas.{Found, Opened, above_unopened, found_over, held_wanted, listed_there, none_foreign, none_leftover, opened_as, settling_after, settling_start, settling_unchanged, there_listed, unopened_above}
-use Rattle.section_manager.proofs.Seen.{failed_again, failed_unnamed}
+use Rattle.section_manager.specs.lemmas.Seen.{failed_again, failed_unnamed}
 use Rattle.blob_device.proofs.general.Results.{if_ok_weaker, on_err}
 
 -- an opening that was refused for no name

@@ -7,9 +7,9 @@ use Rattle.blob_device.specs.Change.{Make, done}
 use Rattle.blob_device.specs.Disk.{Key, Blob, Disk}
 use Rattle.blob_device.specs.Opened.{Opened, OpenedList, entered, reads_of}
 use Rattle.blob_device.specs.Timeline.{Timeline, disk, Passes, OnlyAt}
-use Rattle.blob_device.proofs.Moments.{always_then, always_weaker, always_now, only_start, only_on, ok_blob, err_has}
-use Rattle.blob_device.proofs.OpenedLemmas.{entered_other}
-use Rattle.blob_device.proofs.Puts.{put_same, same_or_other}
+use Rattle.blob_device.specs.lemmas.Moments.{always_then, always_weaker, always_now, only_start, only_on, ok_blob, err_has}
+use Rattle.blob_device.specs.lemmas.Opened.{entered_other}
+use Rattle.blob_device.specs.lemmas.Puts.{put_same, same_or_other}
 use Rattle.sealed_pages.specs.Cutting.{IsAtRest}
 use Rattle.sealed_pages.specs.Entries.{IsOpenAt}
 use Rattle.sealed_pages.specs.Reading.{Unchanged}

@@ -8,7 +8,7 @@ use Rattle.blob_device.specs.Disk.{Key, nothing}
 use Rattle.blob_device.specs.Opened.{OpenedList, reads_of}
 use Rattle.blob_device.specs.Timeline.{disk}
 use Rattle.blob_device.specs.declared.device.Device as device
-use Rattle.blob_device.proofs.Moments.{only_start}
+use Rattle.blob_device.specs.lemmas.Moments.{only_start}
 use Rattle.section_manager.specs.declared.buffer.SectionBuffer as buffer
 use Rattle.section_manager.specs.declared.journal.Error.{Error}
 use Rattle.section_manager.specs.declared.journal.Error.TheVariants.{Mem}
@@ -23,7 +23,7 @@ use Rattle.section_manager.specs.Raised.{raised}
 use Rattle.section_manager.specs.Refusing.{HasFailed, IsPruned}
 use Rattle.section_manager.specs.Sections.{Sections, key_of, HasOpened, IsHeld, IsOver, IsSame, SameBounds}
 use Rattle.section_manager.specs.Setting.{Setting}
-use Rattle.section_manager.proofs.Seen.{failed_again, failed_unpruned}
+use Rattle.section_manager.specs.lemmas.Seen.{failed_again, failed_unpruned}
 use Rattle.section_manager.proofs.sections.OpenLemmas.{same_sections, unopened_over}
 use Rattle.section_manager.proofs.sections.OverLemmas.{over_changed, same_key}
 use Rattle.blob_device.proofs.general.Options.{some_same}

@@ -10,7 +10,7 @@ use Rattle.section_manager.specs.Entries.{OnlyOwnEntry}
 use Rattle.section_manager.specs.managing.Lending.{IsPut}
 use Rattle.section_manager.specs.Setting.{Setting}
 use Rattle.section_manager.specs.Sections.{Sections, section_key, key_of, IsHeld, IsKnown, IsSame, SameBounds, HasOpened, StandsOver, IsOver}
-use Rattle.section_manager.proofs.sections.KeyLemmas.{keys_differ}
+use Rattle.section_manager.specs.lemmas.Keys.{keys_differ}
 
 module _ {F B : Type 0} where
   -- where the sections stay in their partition, their blobs are the same

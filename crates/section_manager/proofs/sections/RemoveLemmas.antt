@@ -7,9 +7,9 @@ use Rattle.blob_device.specs.Change.{Remove}
 use Rattle.blob_device.specs.Disk.{Key, Blob, Disk, nothing}
 use Rattle.blob_device.specs.Opened.{OpenedList, left}
 use Rattle.blob_device.specs.Timeline.{Timeline, disk, Passes, Always, OnlyAt}
-use Rattle.blob_device.proofs.Moments.{always_now, always_then, always_weaker, only_start, only_on, ok_blob, err_has}
-use Rattle.blob_device.proofs.OpenedLemmas.{left_other}
-use Rattle.blob_device.proofs.Puts.{put_same, same_or_other}
+use Rattle.blob_device.specs.lemmas.Moments.{always_now, always_then, always_weaker, only_start, only_on, ok_blob, err_has}
+use Rattle.blob_device.specs.lemmas.Opened.{left_other}
+use Rattle.blob_device.specs.lemmas.Puts.{put_same, same_or_other}
 use Rattle.section_manager.specs.declared.buffer.SectionBuffer as buffer
 use Rattle.section_manager.specs.declared.manager.removing.Doomed.{Doomed}
 use Rattle.section_manager.specs.declared.manager.removing.Doomed.TheVariants.{Through, After}
@@ -18,7 +18,7 @@ use Rattle.section_manager.specs.Lasting.{IsGoing, Removing, EntriesLeave}
 use Rattle.section_manager.specs.Leaving.{AllMoments}
 use Rattle.section_manager.specs.Sections.{Sections, key_of, IsHeld, IsKnown, IsSection, IsGone, IsSame, SameBounds, IsKeyOf, IsOver}
 use Rattle.section_manager.specs.Setting.{Setting}
-use Rattle.section_manager.proofs.sections.KeyLemmas.{keys_differ}
+use Rattle.section_manager.specs.lemmas.Keys.{keys_differ}
 use Rattle.section_manager.proofs.sections.OverLemmas.{same_key, same_known, known_same, over_changed}
 use Rattle.section_manager.proofs.WalkLemmas.{same_bounds}
 

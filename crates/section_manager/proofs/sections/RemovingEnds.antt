@@ -5,7 +5,7 @@ use Rattle.std.proofs.lemmas.Bool.{cases_lt}
 use Rattle.blob_device.specs.Disk.{Key}
 use Rattle.blob_device.specs.Timeline.{disk, Always}
 use Rattle.blob_device.specs.declared.device.Device as device
-use Rattle.blob_device.proofs.Moments.{always_start, only_start}
+use Rattle.blob_device.specs.lemmas.Moments.{always_start, only_start}
 use Rattle.section_manager.specs.declared.buffer.SectionBuffer as buffer
 use Rattle.section_manager.specs.declared.journal.Error.{Error}
 use Rattle.section_manager.specs.declared.manager.removing.Doomed.{Doomed}
@@ -17,7 +17,7 @@ use Rattle.section_manager.specs.managing.Removing.{Clears, Destroys, Forgets, P
 use Rattle.section_manager.specs.Refusing.{HasFailed, IsPruned}
 use Rattle.section_manager.specs.Sections.{Sections, key_of, IsGone, IsHeld, IsKeyOf, IsKnown, IsOver}
 use Rattle.section_manager.specs.Setting.{Setting}
-use Rattle.section_manager.proofs.Seen.{failed_again, failed_unpruned}
+use Rattle.section_manager.specs.lemmas.Seen.{failed_again, failed_unpruned}
 use Rattle.section_manager.proofs.sections.OverLemmas.{same_key}
 use Rattle.section_manager.proofs.sections.RemoveLemmas.{below_doomed, doomed_below, entries_as, gone_unknown, moments_as, none_known, over_bounds, pruned_flag, removing_start}
 

@@ -5,7 +5,7 @@ use Rattle.std.proofs.lemmas.Bool.{cases_lt}
 use Rattle.blob_device.specs.Disk.{Key, Blob, Disk, nothing}
 use Rattle.blob_device.specs.Opened.{OpenedList, reads_of}
 use Rattle.blob_device.specs.Timeline.{Timeline, disk, Always, OnlyAt}
-use Rattle.blob_device.proofs.Moments.{always_now, always_then, always_weaker}
+use Rattle.blob_device.specs.lemmas.Moments.{always_now, always_then, always_weaker}
 use Rattle.section_manager.specs.declared.buffer.SectionBuffer as buffer
 use Rattle.section_manager.specs.declared.journal.Error.{Error}
 use Rattle.section_manager.specs.Lasting.{Removing, EntriesLeave, IsLonger, Truncating}
@@ -13,7 +13,7 @@ use Rattle.section_manager.specs.Leaving.{Leaves, AllMoments}
 use Rattle.section_manager.specs.Refusing.{HasFailed, IsPruned, HasDamage}
 use Rattle.section_manager.specs.Entries.{StartsNoRead}
 use Rattle.section_manager.specs.Sections.{Sections, section_key, key_of, IsKnown}
-use Rattle.section_manager.proofs.sections.KeyLemmas.{key_injective, keys_differ}
+use Rattle.section_manager.specs.lemmas.Keys.{key_injective, keys_differ}
 
 pub some_so : {T : Type 0} {P R : T → Type 0} (o : Option T) → IsSomeAnd o P → ((v : T) → P v → R v) → IsSomeAnd o R
 some_so None is f = is

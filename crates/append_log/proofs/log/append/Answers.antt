@@ -1,7 +1,7 @@
 use Rattle.std.proofs.Common.{IsSome, length, sym, subst, arith}
 use Rattle.blob_device.specs.Disk.{Key}
 use Rattle.blob_device.proofs.StaysLemmas.{stays_start, stays_on}
-use Rattle.blob_device.proofs.OpenedLemmas.{entered_open, entered_other, updated_open}
+use Rattle.blob_device.specs.lemmas.Opened.{entered_open, entered_other, updated_open}
 use Rattle.blob_device.specs.Opened.{OpenedList}
 use Rattle.append_log.proofs.AppendedLemmas.{leaves, holds_stays, len_is, added, no_room, others_opened, others_grown}
 use Rattle.append_log.proofs.log.append.Goals as goal

@@ -1,4 +1,4 @@
-use Rattle.blob_device.proofs.OpenedLemmas.{entered_open}
+use Rattle.blob_device.specs.lemmas.Opened.{entered_open}
 use Rattle.archive_words_tests.proofs.blobs.resize.Goals as goal
 
 pub resize-requires : goal.resize-requires

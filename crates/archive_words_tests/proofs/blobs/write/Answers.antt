@@ -1,4 +1,4 @@
-use Rattle.blob_device.proofs.OpenedLemmas.{entered_open, updated_open}
+use Rattle.blob_device.specs.lemmas.Opened.{entered_open, updated_open}
 use Rattle.archive_words_tests.proofs.blobs.write.Goals as goal
 
 pub write_at-requires-clause-open : goal.write_at-requires-clause-open

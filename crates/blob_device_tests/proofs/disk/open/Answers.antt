@@ -1,5 +1,5 @@
 use Rattle.std.proofs.Common.{arith}
-use Rattle.blob_device.proofs.OpenedLemmas.{entered_fits}
+use Rattle.blob_device.specs.lemmas.Opened.{entered_fits}
 use Rattle.blob_device_tests.proofs.HeldLemmas.{held_at}
 use Rattle.blob_device_tests.proofs.disk.open.Goals as goal
 

@@ -1,6 +1,6 @@
 use Rattle.std.proofs.Common.{◌∙◌, ap}
 use Rattle.blob_device.specs.Opened.{OpenedList}
-use Rattle.blob_device.proofs.OpenedLemmas.{entered_open, updated_open, entered_other, updated_other}
+use Rattle.blob_device.specs.lemmas.Opened.{entered_open, updated_open, entered_other, updated_other}
 use Rattle.blob_device_tests.proofs.disk.written.Goals as goal
 
 pub write_at-requires-clause-open : goal.write_at-requires-clause-open

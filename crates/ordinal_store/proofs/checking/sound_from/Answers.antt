@@ -2,7 +2,7 @@ use Rattle.std.proofs.Common.{◌+◌, ◌*◌, ◌≤◌, ℕ, List, drop, ap, 
 use Rattle.std.specs.Prelude.{IfOk}
 use Rattle.blob_device.specs.Timeline.{disk}
 use Rattle.sealed_pages.specs.unsealed.Writing.{blob_key, bytes_of, shown, size_of}
-use Rattle.sealed_pages.proofs.EntryLemmas.{only_read_of}
+use Rattle.sealed_pages.specs.lemmas.Entries.{only_read_of}
 use Rattle.ordinal_store.specs.Reopening.{AreSound}
 use Rattle.ordinal_store.specs.Slots.{part_at, stored_by}
 use Rattle.ordinal_store.specs.Stores.{sight}

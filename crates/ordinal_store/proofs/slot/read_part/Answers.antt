@@ -2,8 +2,8 @@ use Rattle.std.proofs.Common.{◌≡◌, ℕ, List, ◌++◌, length, take, drop
 use Rattle.std.proofs.Math.Seq.{take-append_seam}
 use Rattle.blob_device.specs.Timeline.{disk}
 use Rattle.sealed_pages.specs.unsealed.Writing.{blob_key, bytes_of, shown}
-use Rattle.blob_device.proofs.Moments.{always_start}
-use Rattle.sealed_pages.proofs.EntryLemmas.{reads_start}
+use Rattle.blob_device.specs.lemmas.Moments.{always_start}
+use Rattle.sealed_pages.specs.lemmas.Entries.{reads_start}
 use Rattle.ordinal_store.proofs.MendLemmas.{failed_of}
 use Rattle.ordinal_store.proofs.ReadLemmas.{part_done, part_failed}
 use Rattle.ordinal_store.proofs.TrailLemmas.{failed_as}

@@ -1,4 +1,4 @@
-use Rattle.blob_device.proofs.OpenedLemmas.{updated_open}
+use Rattle.blob_device.specs.lemmas.Opened.{updated_open}
 use Rattle.power_cut_tests.proofs.OpenLemmas.{room_for_none, written_open, resized_open}
 use Rattle.power_cut_tests.proofs.calls.changed.Goals as goal
 

@@ -1,5 +1,5 @@
 use Rattle.std.proofs.Common.{arith}
-use Rattle.blob_device.proofs.OpenedLemmas.{entered_fits}
+use Rattle.blob_device.specs.lemmas.Opened.{entered_fits}
 use Rattle.power_cut_tests.proofs.device_trial.read_whole.Goals as goal
 
 pub read_at-requires : goal.read_at-requires

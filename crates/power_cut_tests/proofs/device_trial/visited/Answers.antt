@@ -1,4 +1,4 @@
-use Rattle.blob_device.proofs.OpenedLemmas.{entered_open}
+use Rattle.blob_device.specs.lemmas.Opened.{entered_open}
 use Rattle.power_cut_tests.proofs.device_trial.visited.Goals as goal
 
 pub loop-change-init : goal.loop-change-init

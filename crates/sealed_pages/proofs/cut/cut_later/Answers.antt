@@ -3,7 +3,7 @@ use Rattle.sealed_pages.specs.View.{page_at}
 use Rattle.sealed_pages.proofs.cutting.Cuts.{resized_take}
 use Rattle.std.proofs.lemmas.List.{take_all}
 use Rattle.sealed_pages.proofs.slots.PageCalls.{alone_start}
-use Rattle.sealed_pages.proofs.EntryLemmas.{no_reads_start, open_some}
+use Rattle.sealed_pages.specs.lemmas.Entries.{no_reads_start, open_some}
 use Rattle.sealed_pages.proofs.cutting.Truncating.{no_value}
 use Rattle.std.proofs.Common.{arith, rules, refl, inl, inr, sym, ap, ◌∙◌}
 use Rattle.blob_device.specs.Timeline.{disk}

@@ -5,7 +5,7 @@ use Rattle.blob_device.specs.Change.{Resize}
 use Rattle.sealed_pages.specs.Entries.{IsOpenAt}
 use Rattle.sealed_pages.proofs.cutting.Calls.{cut_one, cut_two, settled_after}
 use Rattle.sealed_pages.proofs.cutting.Entries.{resized_open}
-use Rattle.sealed_pages.proofs.EntryLemmas.{no_reads_resize, no_reads_updated, no_reads_open, open_same}
+use Rattle.sealed_pages.specs.lemmas.Entries.{no_reads_resize, no_reads_updated, no_reads_open, open_same}
 use Rattle.sealed_pages.proofs.adopted.Keeping.{resize_as}
 use Rattle.sealed_pages.proofs.Fronts.{front_start, front_resize}
 use Rattle.sealed_pages.specs.View.{page_at}

@@ -8,7 +8,7 @@ use Rattle.sealed_pages.specs.Reading.{Unchanged}
 use Rattle.sealed_pages.specs.SealedPrefix.{pages_in, sealed_from}
 use Rattle.sealed_pages.specs.Slots.{page_length}
 use Rattle.sealed_pages.specs.View.{page_at}
-use Rattle.sealed_pages.proofs.EntryLemmas.{reads_start, reads_more, reads_then}
+use Rattle.sealed_pages.specs.lemmas.Entries.{reads_start, reads_more, reads_then}
 use Rattle.sealed_pages.proofs.looking.Looking.{content_length, unchanged_start, unchanged_now, unchanged_then}
 use Rattle.sealed_pages.proofs.looking.PieceLemmas.{piece_covered, sealed_full, sealed_last, sealed_behind}
 use Rattle.sealed_pages.proofs.looking.ReadLemmas.{data_fits}

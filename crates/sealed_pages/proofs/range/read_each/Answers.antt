@@ -18,7 +18,7 @@ use Rattle.sealed_pages.specs.SealedPrefix.{place}
 use Rattle.sealed_pages.specs.Slots.{page_length}
 use Rattle.sealed_pages.specs.View.{view, page_at}
 use Rattle.sealed_pages.proofs.adopted.Adopt.{place_in}
-use Rattle.sealed_pages.proofs.EntryLemmas.{reads_then, reads_more}
+use Rattle.sealed_pages.specs.lemmas.Entries.{reads_then, reads_more}
 use Rattle.sealed_pages.proofs.looking.Looking.{unchanged_now, unchanged_then}
 use Rattle.sealed_pages.proofs.looking.ReadLemmas.{index_twice, filled, page_before, same_error, touched_upto, step_needed, step_next, step_reached, step_last, step_short, step_wanted}
 use Rattle.sealed_pages.specs.SlotNames.{opened_key}

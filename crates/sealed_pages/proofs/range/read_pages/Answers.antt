@@ -1,4 +1,4 @@
-use Rattle.sealed_pages.proofs.EntryLemmas.{reads_start}
+use Rattle.sealed_pages.specs.lemmas.Entries.{reads_start}
 use Rattle.std.proofs.Common.{rules, refl}
 use Rattle.sealed_pages.proofs.range.read_pages.Goals as goal
 

@@ -9,7 +9,7 @@ use Rattle.sealed_pages.specs.Cached.{held_in, IsCachedOf}
 use Rattle.sealed_pages.specs.Entries.{ReadsAtMost}
 use Rattle.sealed_pages.specs.Slots.{page_length}
 use Rattle.sealed_pages.proofs.memory.CacheLemmas.{found_page_has}
-use Rattle.sealed_pages.proofs.EntryLemmas.{reads_start}
+use Rattle.sealed_pages.specs.lemmas.Entries.{reads_start}
 use Rattle.sealed_pages.proofs.looking.ReadLemmas.{part_bytes, part_page}
 use Rattle.sealed_pages.specs.SlotNames.{opened_key}
 use Rattle.sealed_pages.proofs.range.read_part.Given as given

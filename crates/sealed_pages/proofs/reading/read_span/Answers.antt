@@ -1,5 +1,5 @@
 use Rattle.std.proofs.Common.{rules, ◌≡◌, ◌∙◌, length, drop, length-drop, arith}
-use Rattle.sealed_pages.proofs.EntryLemmas.{reads_once}
+use Rattle.sealed_pages.specs.lemmas.Entries.{reads_once}
 use Rattle.blob_device.specs.Timeline.{disk}
 use Rattle.sealed_pages.proofs.looking.Looking.{content_length, unchanged_on}
 use Rattle.sealed_pages.proofs.looking.ReadLemmas.{front_of, span_take}

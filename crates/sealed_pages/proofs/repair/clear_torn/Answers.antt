@@ -1,7 +1,7 @@
 use Rattle.sealed_pages.proofs.cutting.Truncating.{no_value}
 use Rattle.std.proofs.Common.{◌+◌, max, refl, arith, ◌∙◌, ◌≡◌, Bool, cond, ap, sym, rules, inl, inr}
 use Rattle.sealed_pages.proofs.slots.PageCalls.{passes_as, no_ok, alone_start, alone_on}
-use Rattle.sealed_pages.proofs.EntryLemmas.{open_some, no_reads_part, no_reads_updated, open_written, no_reads_start}
+use Rattle.sealed_pages.specs.lemmas.Entries.{open_some, no_reads_part, no_reads_updated, open_written, no_reads_start}
 use Rattle.sealed_pages.proofs.adopted.Keeping.{kept_start, clear_any, clear_ok, clear_data}
 use Rattle.sealed_pages.proofs.Fronts.{front_start, front_write}
 use Rattle.sealed_pages.specs.View.{page_at, slot_at}
@@ -10,7 +10,7 @@ use Rattle.sealed_pages.proofs.adopted.Clearing.{slot_write}
 use Rattle.blob_device.specs.Timeline.{disk}
 use Rattle.blob_device.specs.Disk.{Blob}
 use Rattle.blob_device.specs.Change.{Write, written}
-use Rattle.blob_device.proofs.Moments.{ok_blob, only_start}
+use Rattle.blob_device.specs.lemmas.Moments.{ok_blob, only_start}
 use Rattle.sealed_pages.specs.Flushing.{no_slot}
 use Rattle.sealed_pages.specs.Leftover.{OnlySlot}
 use Rattle.sealed_pages.specs.SlotNames.{is_b, opened_key}

@@ -1,7 +1,7 @@
 use Rattle.sealed_pages.proofs.cutting.Truncating.{no_value}
 use Rattle.std.proofs.Common.{arith, ◌∙◌, ◌≡◌, Bool, cond, ap, sym, rules, refl, inl, inr}
 use Rattle.sealed_pages.proofs.slots.PageCalls.{no_ok, alone_start, alone_on}
-use Rattle.sealed_pages.proofs.EntryLemmas.{open_some, no_reads_resize, no_reads_updated, open_resized, no_reads_start}
+use Rattle.sealed_pages.specs.lemmas.Entries.{open_some, no_reads_resize, no_reads_updated, open_resized, no_reads_start}
 use Rattle.sealed_pages.proofs.adopted.Keeping.{kept_start, behind_any, behind_ok, resize_as, cut_data}
 use Rattle.sealed_pages.proofs.Fronts.{front_start, front_resize}
 use Rattle.sealed_pages.specs.View.{page_at}
@@ -9,7 +9,7 @@ use Rattle.sealed_pages.proofs.adopted.Clearing.{slot_start, slot_resize}
 use Rattle.blob_device.specs.Timeline.{disk}
 use Rattle.blob_device.specs.Disk.{Blob}
 use Rattle.blob_device.specs.Change.{Resize, resized}
-use Rattle.blob_device.proofs.Moments.{ok_blob}
+use Rattle.blob_device.specs.lemmas.Moments.{ok_blob}
 use Rattle.sealed_pages.specs.SlotNames.{opened_key}
 use Rattle.sealed_pages.proofs.repair.cut_behind.Goals as goal
 

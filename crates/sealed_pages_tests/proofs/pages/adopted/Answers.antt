@@ -1,4 +1,4 @@
-use Rattle.sealed_pages.proofs.EntryLemmas.{open_entered}
+use Rattle.sealed_pages.specs.lemmas.Entries.{open_entered}
 use Rattle.sealed_pages_tests.proofs.pages.adopted.Goals as goal
 
 pub adopt-requires-clause-open : goal.adopt-requires-clause-open

@@ -1,6 +1,6 @@
 use Rattle.std.proofs.Common.{[], ◌∷◌}
 use Rattle.blob_device.specs.MemoryMeaning.{memory_opened}
-use Rattle.sealed_pages.proofs.EntryLemmas.{open_entered, open_some}
+use Rattle.sealed_pages.specs.lemmas.Entries.{open_entered, open_some}
 use Rattle.sealed_pages_tests.proofs.pages.read_range.Goals as goal
 
 pub read_range-requires-clause-open : goal.read_range-requires-clause-open

@@ -2,7 +2,7 @@ use Rattle.std.proofs.Common.{ℕ, [], ◌∷◌, sym, subst}
 use Rattle.blob_device.specs.Disk.{Key}
 use Rattle.blob_device.specs.MemoryMeaning.{memory_opened}
 use Rattle.sealed_pages.specs.Entries.{IsOpenAt}
-use Rattle.sealed_pages.proofs.EntryLemmas.{open_entered}
+use Rattle.sealed_pages.specs.lemmas.Entries.{open_entered}
 use Rattle.sealed_pages_tests.proofs.unsealed.open.Goals as goal
 
 pub returns : goal.returns

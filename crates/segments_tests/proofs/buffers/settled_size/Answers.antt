@@ -1,4 +1,4 @@
-use Rattle.sealed_pages.proofs.EntryLemmas.{open_entered}
+use Rattle.sealed_pages.specs.lemmas.Entries.{open_entered}
 use Rattle.segments_tests.proofs.buffers.settled_size.Goals as goal
 
 pub create-requires : goal.create-requires

@@ -12,7 +12,7 @@ use Rattle.section_manager.specs.declared.journal.Error.TheVariants as section
 use Rattle.std.specs.BTreeSet as set
 use Rattle.std.specs.Ordering.{nat_cmp}
 use Rattle.blob_device.specs.Disk.{Key, MayLeave, reads}
-use Rattle.blob_device.proofs.Moments.{always_now, always_start}
+use Rattle.blob_device.specs.lemmas.Moments.{always_now, always_start}
 use Rattle.meta_store.specs.Store.{contents_of}
 use Rattle.paired.specs.Crashes.{HoldMarkers, IsOwn}
 use Rattle.sealed_pages.specs.declared.page_blob.PageBlob.{PageBlob}

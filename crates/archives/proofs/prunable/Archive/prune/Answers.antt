@@ -3,7 +3,7 @@ use Rattle.std.specs.BTreeSet as set
 use Rattle.std.specs.Ordering.{nat_cmp}
 use Rattle.std.proofs.lemmas.Bool.{cases_lt}
 use Rattle.blob_device.specs.Timeline.{disk}
-use Rattle.blob_device.proofs.Moments.{always_now}
+use Rattle.blob_device.specs.lemmas.Moments.{always_now}
 use Rattle.value_codec.specs.declared.codec.Error as codec_error
 use Rattle.paired.specs.PairShown as pair
 use Rattle.paired.proofs.pair.Synced.{layout_as}

@@ -1,7 +1,7 @@
 use Rattle.std.proofs.Common.{refl, Err, arith}
 use Rattle.std.specs.Prelude.{⊤}
 use Rattle.blob_device.specs.Timeline.{disk}
-use Rattle.blob_device.proofs.Moments.{always_now}
+use Rattle.blob_device.specs.lemmas.Moments.{always_now}
 use Rattle.archives.specs.Raised.{raised}
 use Rattle.archives.specs.Shown.{shown}
 use Rattle.archives.proofs.DestroyLemmas.{destroy_done, destroy_goes, destroy_pair_failed, none_left, removal_as}

@@ -1,6 +1,6 @@
 use Rattle.std.proofs.Common.{◌∙◌, ◌+◌, length}
 use Rattle.blob_device.specs.FileMeaning.{file_opened}
-use Rattle.blob_device.proofs.OpenedLemmas.{unchanged_grown}
+use Rattle.blob_device.specs.lemmas.Opened.{unchanged_grown}
 use Rattle.blob_device.proofs.file_device.FileDeviceDevice.write_at.Goals as goal
 use Rattle.blob_device.proofs.general.Results.{err_like}
 

@@ -2,7 +2,7 @@ use Rattle.std.proofs.Common.{◌≡◌, ◌∙◌, Some, None, rules, sym, ap}
 use Rattle.std.specs.Option.{option_map, option_and_then}
 use Rattle.blob_device.specs.Tables.{at_name, at_key}
 use Rattle.blob_device.proofs.Maps.{table_put, here_was}
-use Rattle.blob_device.proofs.Puts.{put_there}
+use Rattle.blob_device.specs.lemmas.Puts.{put_there}
 use Rattle.blob_device.proofs.table.Table.replace.Goals as goal
 
 pub returns-in-Some : goal.returns-in-Some

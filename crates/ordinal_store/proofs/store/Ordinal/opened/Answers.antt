@@ -13,7 +13,7 @@ use Rattle.std.specs.BTreeSet.{contains}
 use Rattle.std.proofs.lemmas.Bool.{cases_lt}
 use Rattle.ordinal_store.specs.declared.ordinal.Error.TheVariants.{InvalidBlobName}
 use Rattle.ordinal_store.proofs.OpenLemmas.{early_failed, early_full, early_named, late_failed, restored_all, there_of, way_emptied}
-use Rattle.blob_device.proofs.Moments.{always_now}
+use Rattle.blob_device.specs.lemmas.Moments.{always_now}
 use Rattle.blob_device.specs.Disk.{AreNamesIn, Disk}
 use Rattle.std.specs.List.{Contains}
 use Rattle.ordinal_store.proofs.TrailLemmas.{as_err, failed_as}

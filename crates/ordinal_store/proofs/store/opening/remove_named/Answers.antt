@@ -3,7 +3,7 @@ use Rattle.std.specs.List.{slice_get}
 use Rattle.std.specs.Option.{option_copied}
 use Rattle.std.proofs.lemmas.Option.{get_or_from_slice_get, slice_get_within, slice_get-get_or}
 use Rattle.blob_device.specs.Change.{Remove}
-use Rattle.blob_device.proofs.Moments.{ok_blob}
+use Rattle.blob_device.specs.lemmas.Moments.{ok_blob}
 use Rattle.ordinal_store.specs.Emptying.{IsIn}
 use Rattle.ordinal_store.specs.Stores.{now, sight}
 use Rattle.ordinal_store.proofs.EmptyingLemmas.{empties_start, none_emptied, empties_more, one_more, emptying_failed, emptied_all}

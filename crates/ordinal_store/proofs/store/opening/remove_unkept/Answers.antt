@@ -5,7 +5,7 @@ use Rattle.std.specs.Ordering.{nat_cmp}
 use Rattle.std.specs.Prelude.{IsTrue}
 use Rattle.std.proofs.lemmas.List.{length-map}
 use Rattle.blob_device.specs.Change.{Remove}
-use Rattle.blob_device.proofs.Moments.{ok_blob}
+use Rattle.blob_device.specs.lemmas.Moments.{ok_blob}
 use Rattle.ordinal_store.specs.Emptying.{IsUnkept}
 use Rattle.ordinal_store.specs.Stores.{now, sight}
 use Rattle.ordinal_store.proofs.EmptyingLemmas.{emptied_all, empties_more, empties_start, emptying_failed, kept_named, name_at, name_listed, named_kept, none_emptied, one_more, one_passed, passed_named, unkept_at, unkept_in}

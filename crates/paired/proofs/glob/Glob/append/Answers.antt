@@ -4,7 +4,7 @@ use Rattle.std.specs.Result.{is_ok}
 use Rattle.blob_device.specs.declared.runtime.RError.TheVariants.{Fault}
 use Rattle.blob_device.specs.declared.runtime.RError.TheVariants.{Mem as RMem}
 use Rattle.section_manager.specs.declared.journal.Error.TheVariants.{Full}
-use Rattle.blob_device.proofs.Moments.{always_now}
+use Rattle.blob_device.specs.lemmas.Moments.{always_now}
 use Rattle.blob_device.specs.Disk.{Key, Outside}
 use Rattle.sealed_pages.specs.Entries.{IsOpenAt}
 use Rattle.blob_device.specs.Timeline.{disk}
@@ -18,7 +18,7 @@ use Rattle.section_manager.specs.unsealed.Buffer.{Stands, content_of, count_of}
 use Rattle.paired.specs.glob.Lasting.{Outlasts, settled_bytes}
 use Rattle.sealed_pages.specs.declared.write_blob.WriteBlob.{WriteBlob}
 use Rattle.section_manager.specs.Setting.{Setting}
-use Rattle.section_manager.proofs.sections.KeyLemmas.{keys_differ}
+use Rattle.section_manager.specs.lemmas.Keys.{keys_differ}
 use Rattle.section_manager.proofs.sections.LentLemmas.{lent_back}
 use Rattle.section_manager.proofs.sections.OverLemmas.{same_key}
 use Rattle.paired.proofs.GlobLemmas.{buffers, Serves, serves_of, glob_one, same_bytes, held_bytes, no_bytes, section_counted}

@@ -1,6 +1,6 @@
 use Rattle.std.proofs.Common.{arith}
 use Rattle.blob_device.specs.Timeline.{disk}
-use Rattle.blob_device.proofs.Moments.{always_now}
+use Rattle.blob_device.specs.lemmas.Moments.{always_now}
 use Rattle.section_manager.specs.managing.Managed.{shown}
 use Rattle.paired.proofs.CallLemmas.{none_from, prune_glob, kept_bytes, pruned_gone}
 use Rattle.paired.proofs.glob.Glob.prune.Goals as goal

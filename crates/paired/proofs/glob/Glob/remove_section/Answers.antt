@@ -1,7 +1,7 @@
 use Rattle.std.proofs.Common.{arith, subst}
 use Rattle.std.specs.Prelude.{IsSome}
 use Rattle.blob_device.specs.Timeline.{disk}
-use Rattle.blob_device.proofs.Moments.{always_now}
+use Rattle.blob_device.specs.lemmas.Moments.{always_now}
 use Rattle.section_manager.specs.managing.Managed.{shown}
 use Rattle.paired.proofs.GlobLemmas.{glob_one, other_bytes}
 use Rattle.paired.proofs.glob.Glob.remove_section.Goals as goal

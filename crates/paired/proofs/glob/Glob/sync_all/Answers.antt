@@ -1,7 +1,7 @@
 use Rattle.std.proofs.Common.{ℕ, inl, inr}
 use Rattle.std.specs.Prelude.{⊤}
 use Rattle.blob_device.specs.Timeline.{disk}
-use Rattle.blob_device.proofs.Moments.{always_now}
+use Rattle.blob_device.specs.lemmas.Moments.{always_now}
 use Rattle.section_manager.specs.managing.Managed.{shown}
 use Rattle.segments.proofs.FixedPassing.{failed_on}
 use Rattle.paired.proofs.CallLemmas.{sync_glob, sync_bytes, sync_settled, sync_all}

@@ -6,7 +6,7 @@ use Rattle.std.specs.Ordering.{nat_cmp}
 use Rattle.blob_device.specs.Disk.{Key, Blob, reads}
 use Rattle.blob_device.specs.Opened.{reads_of}
 use Rattle.blob_device.specs.Timeline.{disk, Always}
-use Rattle.blob_device.proofs.Moments.{always_now}
+use Rattle.blob_device.specs.lemmas.Moments.{always_now}
 use Rattle.sealed_pages.specs.declared.page_blob.PageBlob.{PageBlob}
 use Rattle.sealed_pages.specs.declared.pages.Pages.{Pages}
 use Rattle.sealed_pages.specs.declared.write_blob.WriteBlob.{WriteBlob}

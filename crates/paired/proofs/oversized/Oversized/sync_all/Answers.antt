@@ -4,7 +4,7 @@ use Rattle.std.specs.List.{Contains}
 use Rattle.std.proofs.Math.Seq.{take-length}
 use Rattle.blob_device.specs.Disk.{Key}
 use Rattle.blob_device.specs.Timeline.{disk}
-use Rattle.blob_device.proofs.Moments.{always_weaker}
+use Rattle.blob_device.specs.lemmas.Moments.{always_weaker}
 use Rattle.section_manager.specs.Sections.{IsHeld}
 use Rattle.segments.proofs.FixedWriteLemmas.{are_pages}
 use Rattle.paired.specs.Crashes.{IsBlobOf, IsCopy, IsIndexOf, IsValuesOf}

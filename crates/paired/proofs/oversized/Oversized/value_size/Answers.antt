@@ -9,7 +9,7 @@ use Rattle.section_manager.specs.declared.journal.Error.{Error}
 use Rattle.segments.specs.FixedReading.{is_item_held, IsAbsent}
 use Rattle.std.specs.Result.{IsErrOf}
 use Rattle.section_manager.specs.Sections.{key_of}
-use Rattle.segments.proofs.FixedErrors.{of_error}
+use Rattle.segments.specs.lemmas.FixedErrors.{of_error}
 use Rattle.paired.specs.glob.Sections as glob
 use Rattle.paired.specs.Pair.{list_of, length_of}
 use Rattle.paired.specs.PairShown.{shown}

@@ -1,7 +1,7 @@
 use Rattle.std.proofs.Common.{◌∙◌, ◌≡◌, inl, ℕ, Some, IsSome, IsSomeAnd, refl, sym, arith, subst}
 use Rattle.std.specs.BTreeMap.{get}
 use Rattle.std.specs.Ordering.{nat_cmp}
-use Rattle.blob_device.proofs.Moments.{always_now}
+use Rattle.blob_device.specs.lemmas.Moments.{always_now}
 use Rattle.blob_device.specs.Timeline.{disk, Each}
 use Rattle.sealed_pages.proofs.looking.Looking.{unchanged_start}
 use Rattle.section_manager.specs.declared.journal.Error.TheVariants.{Mem}

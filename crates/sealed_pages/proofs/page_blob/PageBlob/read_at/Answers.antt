@@ -9,7 +9,7 @@ use Rattle.blob_device.specs.Timeline.{disk}
 use Rattle.sealed_pages.specs.Buffer.{key_of}
 use Rattle.sealed_pages.specs.Buffer.{bytes_of, cached}
 use Rattle.sealed_pages.specs.Entries.{ReadsAtMost}
-use Rattle.sealed_pages.proofs.EntryLemmas.{reads_start}
+use Rattle.sealed_pages.specs.lemmas.Entries.{reads_start}
 use Rattle.sealed_pages.proofs.memory.HeldLemmas.{held_to}
 use Rattle.sealed_pages.specs.Cached.{uncached, IsCachedOf}
 use Rattle.sealed_pages.proofs.memory.CacheLemmas.{full_whole, found_page_has}

@@ -14,7 +14,7 @@ use Rattle.sealed_pages.specs.Reads.{EndsAtOrPast}
 use Rattle.sealed_pages.specs.Slots.{page_length}
 use Rattle.sealed_pages.specs.View.{page_at}
 use Rattle.sealed_pages.proofs.looking.PieceLemmas.{piece_covered}
-use Rattle.sealed_pages.proofs.EntryLemmas.{reads_start}
+use Rattle.sealed_pages.specs.lemmas.Entries.{reads_start}
 use Rattle.sealed_pages.proofs.looking.Looking.{unchanged_start}
 use Rattle.sealed_pages.proofs.looking.ReadLemmas.{extent_room}
 use Rattle.sealed_pages.proofs.looking.ReplayLemmas.{part_some, part_within, part_ends, pushed_cases, longer, more_bytes, more_covered, missing_later, unread_step, part_wanted, tip_reaches}

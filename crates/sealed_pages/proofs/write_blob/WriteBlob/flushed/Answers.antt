@@ -1,4 +1,4 @@
-use Rattle.sealed_pages.proofs.EntryLemmas.{no_reads_start, open_some}
+use Rattle.sealed_pages.specs.lemmas.Entries.{no_reads_start, open_some}
 use Rattle.sealed_pages.proofs.cutting.Truncating.{no_value}
 use Rattle.std.proofs.Common.{◌+◌, ◌∙◌, length, ℕ, List, [], ◌∷◌, ap, sym, refl, max, rules, arith, ◌≡◌}
 use Rattle.blob_device.specs.Disk.{Outside}

@@ -1,4 +1,4 @@
-use Rattle.sealed_pages.proofs.EntryLemmas.{no_reads_start, open_some}
+use Rattle.sealed_pages.specs.lemmas.Entries.{no_reads_start, open_some}
 use Rattle.sealed_pages.proofs.cutting.Truncating.{no_value}
 use Rattle.std.proofs.Common.{◌≡◌, ◌∙◌, ℕ, List, [], ◌∷◌, length, ap, sym, subst, arith, rules, refl, inl}
 use Rattle.blob_device.specs.Disk.{Key}

@@ -2,7 +2,7 @@ use Rattle.sealed_pages.proofs.cutting.Truncating.{no_value}
 use Rattle.std.proofs.Common.{ℕ, rules, refl}
 use Rattle.blob_device.specs.Change.{Settle}
 use Rattle.sealed_pages.specs.unsealed.Writing.{shown, blob_key}
-use Rattle.blob_device.proofs.Moments.{ok_blob}
+use Rattle.blob_device.specs.lemmas.Moments.{ok_blob}
 use Rattle.sealed_pages.proofs.unsealed.SparingLemmas.{sparing_settle, passes_at}
 use Rattle.sealed_pages.proofs.unsealed.ContentLemmas.{adds_settle}
 use Rattle.sealed_pages.proofs.write_blob.WriteBlob.rested.Goals as goal

@@ -1,11 +1,11 @@
 use Rattle.std.proofs.lemmas.List.{take_all}
-use Rattle.sealed_pages.proofs.EntryLemmas.{no_reads_start, open_some}
+use Rattle.sealed_pages.specs.lemmas.Entries.{no_reads_start, open_some}
 use Rattle.sealed_pages.proofs.cutting.Truncating.{no_value}
 use Rattle.std.proofs.Common.{◌≤◌, ◌∙◌, ◌∷◌, [], ℕ, length, take, ap, arith, rules, refl, sym}
 use Rattle.blob_device.specs.Disk.{Blob}
 use Rattle.blob_device.specs.Change.{Resize}
 use Rattle.blob_device.specs.Timeline.{disk}
-use Rattle.blob_device.proofs.Moments.{ok_blob}
+use Rattle.blob_device.specs.lemmas.Moments.{ok_blob}
 use Rattle.sealed_pages.specs.unsealed.Writing.{shown, blob_key}
 use Rattle.sealed_pages.proofs.looking.Looking.{content_length}
 use Rattle.sealed_pages.proofs.unsealed.SparingLemmas.{loose_start, passes_at}

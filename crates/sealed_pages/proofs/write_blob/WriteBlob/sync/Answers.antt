@@ -1,7 +1,7 @@
 use Rattle.std.proofs.Common.{◌≡◌, ◌∙◌, false, sym, arith, rules, refl}
 use Rattle.blob_device.specs.Timeline.{disk}
 use Rattle.sealed_pages.specs.unsealed.Writing.{shown, blob_key, bytes_of, is_unsettled, Over}
-use Rattle.sealed_pages.proofs.EntryLemmas.{no_reads_start, open_some}
+use Rattle.sealed_pages.specs.lemmas.Entries.{no_reads_start, open_some}
 use Rattle.sealed_pages.proofs.looking.Looking.{content_length}
 use Rattle.sealed_pages.proofs.unsealed.WritingLemmas.{settled_parts}
 use Rattle.sealed_pages.proofs.unsealed.Settled.{SettledAs}

@@ -2,7 +2,7 @@ use Rattle.std.proofs.lemmas.Grind.{common_steps}
 use Rattle.std.proofs.Common.{rules, arith, inl, inr, ◌∙◌, ◌≡◌, [], length, Err, refl, ap}
 use Rattle.blob_device.specs.declared.runtime.RError.TheVariants.{OffsetOverflow}
 use Rattle.sealed_pages.specs.unsealed.Writing.{WriteBuffer, shown, blob_key}
-use Rattle.sealed_pages.proofs.EntryLemmas.{no_reads_start, open_some}
+use Rattle.sealed_pages.specs.lemmas.Entries.{no_reads_start, open_some}
 use Rattle.sealed_pages.proofs.unsealed.Put.{PutBy, put_none, put_lasts, put_kept, put_moved, put_settled, put_is, put_only, put_leaves, flush_leaves, not_below, unmoved, put_flushed, flushed_is, put_failed}
 use Rattle.sealed_pages.proofs.write_blob.WriteBlob.write_at.Given as given
 use Rattle.sealed_pages.proofs.write_blob.WriteBlob.write_at.Goals as goal

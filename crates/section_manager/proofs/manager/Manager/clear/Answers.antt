@@ -1,5 +1,5 @@
 use Rattle.section_manager.specs.managing.Managed.{shown}
-use Rattle.section_manager.proofs.Seen.{err_seen}
+use Rattle.section_manager.specs.lemmas.Seen.{err_seen}
 use Rattle.section_manager.proofs.sections.RemovingEnds.{clear_failed, cleared}
 use Rattle.section_manager.proofs.manager.Manager.clear.Goals as goal
 

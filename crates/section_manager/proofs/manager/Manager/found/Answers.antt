@@ -10,7 +10,7 @@ use Rattle.section_manager.specs.declared.unopened.Unopened.TheVariants.{Section
 use Rattle.std.specs.Prelude.{string_bytes}
 use Rattle.section_manager.specs.managing.Managed.{shown}
 use Rattle.section_manager.specs.managing.Opening.{Knows}
-use Rattle.section_manager.proofs.Seen.{err_seen}
+use Rattle.section_manager.specs.lemmas.Seen.{err_seen}
 use Rattle.section_manager.proofs.NumberLemmas.{of_listed}
 use Rattle.section_manager.proofs.manager.Manager.found.Goals as goal
 use Rattle.blob_device.proofs.general.Lists.{contains_or_not}

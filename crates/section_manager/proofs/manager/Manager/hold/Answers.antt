@@ -2,7 +2,7 @@ use Rattle.std.proofs.Common.{◌∙◌, ap}
 use Rattle.blob_device.specs.Timeline.{disk}
 use Rattle.section_manager.specs.managing.Managed.{shown}
 use Rattle.section_manager.specs.Sections.{section_key}
-use Rattle.section_manager.proofs.Seen.{err_same, mem_of}
+use Rattle.section_manager.specs.lemmas.Seen.{err_same, mem_of}
 use Rattle.section_manager.proofs.sections.OpenLemmas.{not_held, not_pruned, all_same}
 use Rattle.section_manager.proofs.sections.OpeningEnds.{hold_failed, hold_refused, hold_short, hold_unnoted, holds_held, holds_made, open_over}
 use Rattle.section_manager.proofs.manager.Manager.hold.Goals as goal

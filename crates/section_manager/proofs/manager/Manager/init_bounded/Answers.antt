@@ -1,7 +1,7 @@
 use Rattle.std.specs.Prelude.{string_bytes}
 use Rattle.section_manager.specs.managing.Finding.{finding}
 use Rattle.section_manager.specs.managing.Managed.{shown}
-use Rattle.section_manager.proofs.Seen.{err_seen}
+use Rattle.section_manager.specs.lemmas.Seen.{err_seen}
 use Rattle.section_manager.proofs.sections.InitEnds.{found_there, init_refused, inits_after}
 use Rattle.section_manager.proofs.manager.Manager.init_bounded.Goals as goal
 

@@ -2,7 +2,7 @@ use Rattle.std.proofs.Common.{◌∙◌, ap, rules}
 use Rattle.std.specs.Prelude.{is_some}
 use Rattle.section_manager.specs.managing.Managed.{shown}
 use Rattle.section_manager.specs.Sections.{section_key}
-use Rattle.section_manager.proofs.Seen.{mem_of}
+use Rattle.section_manager.specs.lemmas.Seen.{mem_of}
 use Rattle.section_manager.proofs.sections.OpenLemmas.{all_same}
 use Rattle.section_manager.proofs.sections.OpeningEnds.{made, make_failed, take_short}
 use Rattle.section_manager.proofs.manager.Manager.make.Goals as goal

@@ -4,7 +4,7 @@ use Rattle.blob_device.specs.Disk.{Key, Blob}
 use Rattle.sealed_pages.specs.Entries.{IsOpenAt}
 use Rattle.section_manager.specs.managing.Managed.{shown}
 use Rattle.section_manager.specs.Sections.{key_of}
-use Rattle.section_manager.proofs.Seen.{device_failed}
+use Rattle.section_manager.specs.lemmas.Seen.{device_failed}
 use Rattle.section_manager.proofs.sections.OpenLemmas.{opening_moments, opened_moments, opened_made, opened_has, entered_at, entered_entries, entered_reads}
 use Rattle.section_manager.proofs.sections.OpeningEnds.{blob_failed, blob_refused}
 use Rattle.section_manager.proofs.manager.Manager.open.Goals as goal

@@ -5,7 +5,7 @@ use Rattle.section_manager.specs.managing.Opening.{OpensEach}
 use Rattle.section_manager.specs.Sections.{IsHeld}
 use Rattle.section_manager.proofs.NumberLemmas.{of_listed}
 use Rattle.section_manager.proofs.InitLemmas.{touches_by, touched_none, opened_none, touched_more, opened_more, failed_since}
-use Rattle.section_manager.proofs.Seen.{err_seen}
+use Rattle.section_manager.specs.lemmas.Seen.{err_seen}
 use Rattle.section_manager.proofs.manager.Manager.open_each.Goals as goal
 
 pub loop-number-init : goal.loop-number-init

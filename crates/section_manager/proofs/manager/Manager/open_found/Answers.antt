@@ -1,6 +1,6 @@
 use Rattle.std.proofs.Common.{arith}
 use Rattle.section_manager.specs.managing.Managed.{shown}
-use Rattle.section_manager.proofs.Seen.{err_seen}
+use Rattle.section_manager.specs.lemmas.Seen.{err_seen}
 use Rattle.section_manager.proofs.sections.OpeningEnds.{next_above, next_failed, next_held}
 use Rattle.section_manager.proofs.manager.Manager.open_found.Goals as goal
 

@@ -2,7 +2,7 @@ use Rattle.std.proofs.Common.{◌≡◌, true, false, Ok, refl, sym, subst, arit
 use Rattle.section_manager.specs.declared.manager.Manager.{Manager}
 use Rattle.section_manager.specs.managing.Managed.{flagged, shown}
 use Rattle.section_manager.specs.managing.Removing.{Prunes}
-use Rattle.section_manager.proofs.Seen.{err_seen}
+use Rattle.section_manager.specs.lemmas.Seen.{err_seen}
 use Rattle.section_manager.proofs.sections.RemovingEnds.{not_pruned, prune_failed, pruned, pruned_none}
 use Rattle.section_manager.proofs.manager.Manager.prune.Goals as goal
 use Rattle.section_manager.proofs.manager.Manager.prune.Goals.{then-removed, else-removed}

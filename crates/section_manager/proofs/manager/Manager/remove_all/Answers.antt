@@ -1,10 +1,10 @@
 use Rattle.std.proofs.Common.{inl, inr, refl, arith}
 use Rattle.blob_device.specs.Timeline.{disk}
-use Rattle.blob_device.proofs.Moments.{always_start, always_now}
+use Rattle.blob_device.specs.lemmas.Moments.{always_start, always_now}
 use Rattle.section_manager.specs.Doomed.{IsDoomed, GoesBefore}
 use Rattle.section_manager.specs.Lasting.{Removing}
 use Rattle.section_manager.specs.managing.Managed.{flagged, shown}
-use Rattle.section_manager.proofs.Seen.{err_seen, failed_later}
+use Rattle.section_manager.specs.lemmas.Seen.{err_seen, failed_later}
 use Rattle.section_manager.proofs.sections.RemoveLemmas.{no_some, doomed_known, none_gone, no_progress, removing_start, removing_on, next_same, one_more_entry, one_gone, flag_on, all_gone, all_flagged, all_kept}
 use Rattle.section_manager.proofs.sections.RemovingEnds.{all_failed}
 use Rattle.section_manager.proofs.manager.Manager.remove_all.Goals as goal

@@ -4,7 +4,7 @@ use Rattle.blob_device.specs.Disk.{nothing}
 use Rattle.blob_device.specs.Timeline.{disk}
 use Rattle.section_manager.specs.managing.Managed.{shown}
 use Rattle.section_manager.specs.Sections.{key_of}
-use Rattle.section_manager.proofs.Seen.{device_failed, err_seen}
+use Rattle.section_manager.specs.lemmas.Seen.{device_failed, err_seen}
 use Rattle.section_manager.proofs.sections.RemoveLemmas.{going_moments, gone_blob, other_blobs, entry_left, entry_may_leave, over_gone}
 use Rattle.section_manager.proofs.sections.RemovingEnds.{forget_failed}
 use Rattle.section_manager.proofs.manager.Manager.remove_known.Goals as goal

@@ -1,6 +1,6 @@
 use Rattle.std.proofs.Common.{IsSome}
 use Rattle.section_manager.specs.managing.Managed.{flagged, shown}
-use Rattle.section_manager.proofs.Seen.{err_same, err_seen}
+use Rattle.section_manager.specs.lemmas.Seen.{err_same, err_seen}
 use Rattle.section_manager.proofs.sections.OpenLemmas.{not_held, not_pruned}
 use Rattle.section_manager.proofs.sections.RemovingEnds.{one_absent, one_goes, one_refused, one_stays}
 use Rattle.section_manager.proofs.manager.Manager.remove_section.Goals as goal

@@ -4,7 +4,7 @@ use Rattle.blob_device.specs.Disk.{AreNamesIn}
 use Rattle.blob_device.specs.Timeline.{disk}
 use Rattle.sealed_pages.proofs.looking.Looking.{unchanged_on}
 use Rattle.section_manager.specs.managing.Finding.{finding}
-use Rattle.section_manager.proofs.Seen.{device_failed, err_seen}
+use Rattle.section_manager.specs.lemmas.Seen.{device_failed, err_seen}
 use Rattle.section_manager.proofs.sections.InitEnds.{names_refused, names_unread, scanned}
 use Rattle.section_manager.proofs.manager.Manager.scan.Goals as goal
 

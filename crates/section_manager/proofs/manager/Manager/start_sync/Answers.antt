@@ -2,7 +2,7 @@ use Rattle.std.proofs.Common.{sym, subst}
 use Rattle.std.specs.List.{Contains}
 use Rattle.section_manager.specs.managing.Managed.{shown}
 use Rattle.section_manager.specs.managing.Settling.{IsAnyBelow, Settles}
-use Rattle.section_manager.proofs.Seen.{err_seen}
+use Rattle.section_manager.specs.lemmas.Seen.{err_seen}
 use Rattle.section_manager.proofs.manager.Manager.start_sync.Goals as goal
 
 pub returns-in_err-this : goal.returns-in_err-this

@@ -2,7 +2,7 @@ use Rattle.std.proofs.Common.{inl}
 use Rattle.std.specs.List.{Contains}
 use Rattle.section_manager.specs.managing.Managed.{shown}
 use Rattle.section_manager.specs.managing.Settling.{IsAnyBelow}
-use Rattle.section_manager.proofs.Seen.{err_same, err_seen}
+use Rattle.section_manager.specs.lemmas.Seen.{err_same, err_seen}
 use Rattle.section_manager.proofs.sections.SettlingEnds.{below_none, each_refused}
 use Rattle.section_manager.proofs.sections.SyncLemmas.{BufferLaws}
 use Rattle.section_manager.proofs.manager.Manager.sync.Goals as goal

@@ -2,7 +2,7 @@ use Rattle.std.proofs.Common.{ℕ, List, IsSome, inr, refl, sym, subst}
 use Rattle.std.specs.Prelude.{⊤}
 use Rattle.std.specs.List.{Contains}
 use Rattle.section_manager.specs.managing.Managed.{shown}
-use Rattle.section_manager.proofs.Seen.{err_seen, short_by}
+use Rattle.section_manager.specs.lemmas.Seen.{err_seen, short_by}
 use Rattle.section_manager.proofs.sections.SettlingEnds.{each_refused, settles_all}
 use Rattle.section_manager.proofs.sections.SyncLemmas.{BufferLaws}
 use Rattle.section_manager.proofs.manager.Manager.sync_all.Goals as goal

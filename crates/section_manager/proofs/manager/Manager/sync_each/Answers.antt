@@ -2,7 +2,7 @@ use Rattle.std.proofs.Common.{ℕ, List, take, get_or, subst, arith}
 use Rattle.std.specs.List.{Contains}
 use Rattle.std.proofs.lemmas.List.{take_all}
 use Rattle.section_manager.specs.managing.Managed.{shown}
-use Rattle.section_manager.proofs.Seen.{err_seen}
+use Rattle.section_manager.specs.lemmas.Seen.{err_seen}
 use Rattle.section_manager.proofs.sections.SettlingEnds.{each_failed, each_settled, one_makes, one_tries}
 use Rattle.section_manager.proofs.sections.SyncLemmas.{BufferLaws, SyncWalked, sync_tried_start, sync_walked_start, sync_tried_more, sync_walked_more}
 use Rattle.section_manager.proofs.manager.Manager.sync_each.Goals as goal

@@ -1,6 +1,6 @@
 use Rattle.std.proofs.Common.{◌≡◌, ◌∙◌, Some, true, refl, sym}
 use Rattle.section_manager.specs.managing.Managed.{shown}
-use Rattle.section_manager.proofs.Seen.{err_seen, held_has, raised_failed, short}
+use Rattle.section_manager.specs.lemmas.Seen.{err_seen, held_has, raised_failed, short}
 use Rattle.section_manager.proofs.sections.SettlingEnds.{one_failed, one_idle, one_settled}
 use Rattle.section_manager.proofs.sections.SyncLemmas.{BufferLaws, open_before}
 use Rattle.section_manager.proofs.manager.Manager.sync_one.Goals as goal

@@ -3,7 +3,7 @@ use Rattle.std.specs.BTreeMap.{is_at}
 use Rattle.std.specs.Map.{lookup}
 use Rattle.std.specs.Ordering.{nat_cmp}
 use Rattle.section_manager.specs.managing.Managed.{shown}
-use Rattle.section_manager.proofs.Seen.{err_same}
+use Rattle.section_manager.specs.lemmas.Seen.{err_same}
 use Rattle.section_manager.proofs.sections.OpenLemmas.{not_pruned}
 use Rattle.section_manager.proofs.sections.OpeningEnds.{take_refused, take_short, took_held}
 use Rattle.section_manager.proofs.manager.Manager.take.Goals as goal

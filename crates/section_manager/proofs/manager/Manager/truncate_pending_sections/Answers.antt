@@ -8,7 +8,7 @@ use Rattle.std.proofs.lemmas.Map.Iter.{btree_map_turn, iter_end}
 use Rattle.std.proofs.lemmas.Map.Views.{Contains-keys_from_lookup, IsSome-lookup_from_Contains}
 use Rattle.std.specs.Map.{keys_of}
 use Rattle.section_manager.specs.managing.Managed.{shown}
-use Rattle.section_manager.proofs.Seen.{err_same, err_seen}
+use Rattle.section_manager.specs.lemmas.Seen.{err_same, err_seen}
 use Rattle.section_manager.proofs.sections.SyncLemmas.{BufferLaws}
 use Rattle.section_manager.proofs.sections.CutLemmas.{CutWalked, CutTried, cut_tried_start, cut_walked_start, can_still, cut_tried_more, cut_walked_more}
 use Rattle.section_manager.proofs.sections.CuttingEnds.{cut_call, cut_made, each_cut, each_failed, each_refused, walked_named}

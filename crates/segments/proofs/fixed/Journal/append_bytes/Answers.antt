@@ -4,7 +4,7 @@ use Rattle.std.proofs.lemmas.Bool.{cases_lt}
 use Rattle.blob_device.specs.declared.runtime.RError.TheVariants.{OffsetOverflow}
 use Rattle.blob_device.specs.Disk.{Key}
 use Rattle.blob_device.specs.Timeline.{disk}
-use Rattle.blob_device.proofs.Moments.{always_now}
+use Rattle.blob_device.specs.lemmas.Moments.{always_now}
 use Rattle.sealed_pages.specs.Buffer as pages
 use Rattle.sealed_pages.specs.Buffer.{extent, bytes_of, IsSealed}
 use Rattle.sealed_pages.specs.Entries.{IsOpenAt}
@@ -18,7 +18,7 @@ use Rattle.section_manager.specs.Sections.{section_key, key_of}
 use Rattle.section_manager.specs.declared.journal.Error.{Error}
 use Rattle.section_manager.specs.declared.journal.Error.TheVariants.{Full, Mem}
 use Rattle.section_manager.specs.managing.Managed as managed
-use Rattle.section_manager.proofs.sections.KeyLemmas.{keys_differ}
+use Rattle.section_manager.specs.lemmas.Keys.{keys_differ}
 use Rattle.section_manager.proofs.sections.LentLemmas.{lent_back}
 use Rattle.segments.specs.FixedFull.{full_or_raised_of}
 use Rattle.segments.specs.FixedLists.{section_size}

@@ -2,7 +2,7 @@ use Rattle.std.proofs.Common.{rules, ℕ, List, ap}
 use Rattle.std.specs.BTreeMap.{is_at}
 use Rattle.std.specs.List.{list_any}
 use Rattle.std.specs.Ordering.{nat_cmp}
-use Rattle.section_manager.proofs.Seen.{err_seen}
+use Rattle.section_manager.specs.lemmas.Seen.{err_seen}
 use Rattle.segments.specs.FixedShown.{shown}
 use Rattle.segments.proofs.FixedRemovingEnds.{clear_failed, cleared_all}
 use Rattle.segments.proofs.fixed.Journal.clear.Goals as goal

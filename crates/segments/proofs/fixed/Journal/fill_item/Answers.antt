@@ -4,11 +4,11 @@ use Rattle.blob_device.specs.Timeline.{disk}
 use Rattle.blob_device.specs.declared.runtime.RError.TheVariants.{InvalidChecksum}
 use Rattle.sealed_pages.specs.Buffer.{key_of, size_of, bytes_of}
 use Rattle.sealed_pages.specs.Shown.{shown}
-use Rattle.sealed_pages.proofs.EntryLemmas.{reads_more}
+use Rattle.sealed_pages.specs.lemmas.Entries.{reads_more}
 use Rattle.sealed_pages.proofs.memory.Holding.{fit_size}
 use Rattle.sealed_pages.proofs.looking.Looking.{unchanged_start}
 use Rattle.section_manager.specs.Raised.{raised}
-use Rattle.segments.proofs.FixedErrors.{of_buffer, read_fails}
+use Rattle.segments.specs.lemmas.FixedErrors.{of_buffer, read_fails}
 use Rattle.segments.proofs.FixedItemReads.{no_reads}
 use Rattle.segments.proofs.FixedMemory.{covered_item, told_held, held_covered, missing_most}
 use Rattle.segments.proofs.FixedReadLemmas.{read_item, short_item}

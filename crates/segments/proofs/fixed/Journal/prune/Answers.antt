@@ -1,4 +1,4 @@
-use Rattle.section_manager.proofs.Seen.{err_seen}
+use Rattle.section_manager.specs.lemmas.Seen.{err_seen}
 use Rattle.segments.specs.FixedShown.{flagged, shown}
 use Rattle.segments.proofs.FixedRemovingEnds.{prune_failed, pruned_all}
 use Rattle.segments.proofs.fixed.Journal.prune.Goals as goal

@@ -16,7 +16,7 @@ use Rattle.section_manager.specs.declared.journal.Error.TheVariants.{Runtime, Co
 use Rattle.segments.specs.FixedItems.{item_at}
 use Rattle.segments.specs.FixedReading.{is_item_held, IsDamaged, IsItemCovered}
 use Rattle.segments.proofs.FixedItemReads.{each_failed}
-use Rattle.segments.proofs.FixedErrors.{of_error, read_failed}
+use Rattle.segments.specs.lemmas.FixedErrors.{of_error, read_failed}
 use Rattle.segments.proofs.FixedMemory.{count_within}
 use Rattle.segments.proofs.FixedReadLemmas.{none_next, none_here, reads_one, reads_next, reads_here}
 use Rattle.segments.proofs.fixed.Journal.read_each.Goals as goal

@@ -1,4 +1,4 @@
-use Rattle.section_manager.proofs.Seen.{err_seen}
+use Rattle.section_manager.specs.lemmas.Seen.{err_seen}
 use Rattle.segments.proofs.FixedItemReads.{reads_failed, reads_coded, reads_got}
 use Rattle.segments.proofs.fixed.Journal.read_into.Goals as goal
 

@@ -1,5 +1,5 @@
 use Rattle.segments.specs.FixedShown.{shown}
-use Rattle.section_manager.proofs.Seen.{err_seen}
+use Rattle.section_manager.specs.lemmas.Seen.{err_seen}
 use Rattle.segments.proofs.FixedSettlingEnds.{settles_as}
 use Rattle.segments.proofs.fixed.Journal.start_sync.Goals as goal
 

@@ -1,7 +1,7 @@
 use Rattle.std.proofs.Common.{refl}
 use Rattle.std.specs.List.{Contains}
 use Rattle.section_manager.specs.contracts.sealed.PageBlobSectionBuffer.TheImpl.{ghosts}
-use Rattle.section_manager.proofs.Seen.{err_seen}
+use Rattle.section_manager.specs.lemmas.Seen.{err_seen}
 use Rattle.segments.specs.FixedShown.{shown}
 use Rattle.segments.proofs.FixedSettlingEnds.{settle_failed, settled_all}
 use Rattle.segments.proofs.FixedWriteLemmas.{are_pages}

@@ -1,5 +1,5 @@
 use Rattle.section_manager.specs.contracts.sealed.PageBlobSectionBuffer.TheImpl.{ghosts}
-use Rattle.section_manager.proofs.Seen.{err_seen}
+use Rattle.section_manager.specs.lemmas.Seen.{err_seen}
 use Rattle.segments.specs.FixedShown.{shown}
 use Rattle.segments.proofs.FixedCutLemmas.{safe_cut}
 use Rattle.segments.proofs.FixedCuttingEnds.{cut_failed, cut_made}

@@ -1,5 +1,5 @@
 use Rattle.std.proofs.Common.{refl}
-use Rattle.blob_device.proofs.Moments.{always_now}
+use Rattle.blob_device.specs.lemmas.Moments.{always_now}
 use Rattle.segments.specs.FixedShown.{shown}
 use Rattle.segments.proofs.FixedCutLemmas.{safe_cut}
 use Rattle.segments.proofs.FixedPassing.{guard_on, guard_ok, cut_on, error_back, no_error}

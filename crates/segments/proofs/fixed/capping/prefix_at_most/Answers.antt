@@ -6,7 +6,7 @@ use Rattle.sealed_pages.specs.Buffer.{key_of}
 use Rattle.sealed_pages.specs.Proven.{proven_prefix}
 use Rattle.sealed_pages.specs.SealedPrefix.{pages_in, sealed_from, sealed_prefix}
 use Rattle.sealed_pages.specs.Shown.{shown}
-use Rattle.sealed_pages.proofs.EntryLemmas.{only_read_of, reads_more}
+use Rattle.sealed_pages.specs.lemmas.Entries.{only_read_of, reads_more}
 use Rattle.segments.proofs.fixed.capping.prefix_at_most.Goals as goal
 use Rattle.blob_device.proofs.general.Results.{err_of}
 

@@ -1,7 +1,7 @@
 use Rattle.std.proofs.Common.{◌≡◌, ◌∙◌, Err, inl, inr, ap, arith}
 use Rattle.std.proofs.Math.Nat.{mod-one}
 use Rattle.section_manager.specs.declared.journal.Error.TheVariants.{Mem, ValueTooLarge}
-use Rattle.section_manager.proofs.Seen.{err_same}
+use Rattle.section_manager.specs.lemmas.Seen.{err_same}
 use Rattle.segments.proofs.FixedAdding.{error_is, mem_not_full, mem_not_pruned}
 use Rattle.segments.proofs.FixedPassing.{no_error}
 use Rattle.segments.proofs.FixedWriteLemmas.{are_pages}

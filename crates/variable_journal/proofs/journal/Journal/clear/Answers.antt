@@ -1,6 +1,6 @@
 use Rattle.std.proofs.Common.{inl, refl}
 use Rattle.blob_device.specs.Timeline.{disk}
-use Rattle.section_manager.proofs.Seen.{failed_again}
+use Rattle.section_manager.specs.lemmas.Seen.{failed_again}
 use Rattle.segments.specs.FixedShown as bytes
 use Rattle.variable_journal.specs.Shown.{shown}
 use Rattle.variable_journal.proofs.SectionLemmas.{framed_again, gone_bytes}

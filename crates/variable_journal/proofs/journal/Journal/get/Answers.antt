@@ -3,7 +3,7 @@ use Rattle.blob_device.specs.Disk.{Key}
 use Rattle.blob_device.specs.Timeline.{disk}
 use Rattle.sealed_pages.specs.Buffer.{IsSealed}
 use Rattle.sealed_pages.specs.Shown as page_blob
-use Rattle.section_manager.proofs.Seen.{err_same}
+use Rattle.section_manager.specs.lemmas.Seen.{err_same}
 use Rattle.segments.proofs.FixedAdding.{error_is}
 use Rattle.segments.proofs.FixedPassing.{guard_on}
 use Rattle.segments.proofs.FixedSections.{holds_own, is_held}

@@ -4,7 +4,7 @@ use Rattle.value_codec.specs.declared.codec.Error.TheVariants.{InvalidVarint}
 use Rattle.sealed_pages.specs.Buffer.{bytes_of, size_of, IsBacked}
 use Rattle.sealed_pages.specs.Buffer as pages
 use Rattle.sealed_pages.specs.Shown as page_blob
-use Rattle.sealed_pages.proofs.EntryLemmas.{only_read_of, only_read_start}
+use Rattle.sealed_pages.specs.lemmas.Entries.{only_read_of, only_read_start}
 use Rattle.sealed_pages.proofs.memory.Holding.{fit_size}
 use Rattle.sealed_pages.proofs.looking.Looking.{unchanged_start}
 use Rattle.section_manager.specs.Raised.{raised}

@@ -4,7 +4,7 @@ use Rattle.blob_device.specs.Disk.{Blob, Disk}
 use Rattle.sealed_pages.specs.Buffer as pages
 use Rattle.sealed_pages.specs.Buffer.{IsBacked}
 use Rattle.sealed_pages.specs.Shown as page_blob
-use Rattle.sealed_pages.proofs.EntryLemmas.{only_read_of, only_read_then}
+use Rattle.sealed_pages.specs.lemmas.Entries.{only_read_of, only_read_then}
 use Rattle.sealed_pages.proofs.memory.Holding.{fit_size}
 use Rattle.sealed_pages.proofs.looking.Looking.{unchanged_now, unchanged_then}
 use Rattle.section_manager.specs.Raised.{raised, raised_codec}

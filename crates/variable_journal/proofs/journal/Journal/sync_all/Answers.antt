@@ -2,7 +2,7 @@ use Rattle.std.proofs.Common.{◌≡◌, ℕ, inl, inr, refl, ◌∙◌, sym}
 use Rattle.blob_device.specs.Timeline.{disk}
 use Rattle.section_manager.specs.Sections.{IsHeld}
 use Rattle.section_manager.specs.contracts.sealed.PageBlobSectionBuffer.TheImpl.{ghosts}
-use Rattle.section_manager.proofs.Seen.{err_same, failed_again}
+use Rattle.section_manager.specs.lemmas.Seen.{err_same, failed_again}
 use Rattle.segments.specs.FixedShown as bytes
 use Rattle.variable_journal.specs.Shown.{shown}
 use Rattle.variable_journal.proofs.SectionLemmas.{framed_again, held_or_not, settling_held, synced_bytes, not_held, unsettled_held, no_low}

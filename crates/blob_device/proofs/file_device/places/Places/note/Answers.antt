@@ -2,7 +2,7 @@ use Rattle.std.proofs.Common.{◌∙◌, Option, IsSome, refl, sym, ap, subst}
 use Rattle.blob_device.specs.declared.file_device.places.BlobFile.{BlobFile}
 use Rattle.blob_device.specs.Disk.{Key}
 use Rattle.blob_device.specs.Tables.{at_key}
-use Rattle.blob_device.proofs.Puts.{put_same}
+use Rattle.blob_device.specs.lemmas.Puts.{put_same}
 use Rattle.blob_device.proofs.file_device.places.Places.note.Goals as goal
 use Rattle.blob_device.proofs.general.Results.{on_ok}
 

@@ -4,7 +4,7 @@ use Rattle.std.specs.declared.alloc.Global.{Global}
 use Rattle.blob_device.specs.Disk.{Key, put}
 use Rattle.blob_device.specs.Tables.{at_key}
 use Rattle.blob_device.specs.Images.{contents}
-use Rattle.blob_device.proofs.Puts.{put_mapped}
+use Rattle.blob_device.specs.lemmas.Puts.{put_mapped}
 use Rattle.blob_device.proofs.memory.image.Image.drop_blob.Goals as goal
 
 pub returns : goal.returns

@@ -4,7 +4,7 @@ use Rattle.std.specs.BTreeSet as set
 use Rattle.std.specs.Ordering.{nat_cmp}
 use Rattle.blob_device.specs.Opened.{reads_of}
 use Rattle.blob_device.specs.Timeline.{disk, Always}
-use Rattle.blob_device.proofs.Moments.{always_start, always_now}
+use Rattle.blob_device.specs.lemmas.Moments.{always_start, always_now}
 use Rattle.sealed_pages.specs.Reading.{Unchanged}
 use Rattle.section_manager.specs.managing.Managed as manager
 use Rattle.section_manager.specs.declared.journal.Error.TheVariants.{Codec, Corruption, ReplayFailed}

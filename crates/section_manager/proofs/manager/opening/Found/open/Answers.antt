@@ -7,7 +7,7 @@ use Rattle.section_manager.specs.managing.Finding.{AreSectionsIn, finding}
 use Rattle.section_manager.specs.managing.Managed.{shown}
 use Rattle.section_manager.specs.managing.Opening.{OpensEach, OpensFound}
 use Rattle.section_manager.proofs.InitLemmas.{Found, found_as}
-use Rattle.section_manager.proofs.Seen.{err_seen, mem_of}
+use Rattle.section_manager.specs.lemmas.Seen.{err_seen, mem_of}
 use Rattle.section_manager.proofs.sections.InitEnds.{found_opened, found_short, start_over, start_there}
 use Rattle.section_manager.proofs.manager.opening.Found.open.Goals as goal
 

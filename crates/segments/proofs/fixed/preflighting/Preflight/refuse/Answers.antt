@@ -4,7 +4,7 @@ use Rattle.blob_device.specs.Timeline.{disk}
 use Rattle.sealed_pages.specs.Buffer.{key_of}
 use Rattle.sealed_pages.specs.Shown.{shown}
 use Rattle.section_manager.specs.declared.journal.Damage.{Damage}
-use Rattle.section_manager.proofs.Seen.{raised_failed}
+use Rattle.section_manager.specs.lemmas.Seen.{raised_failed}
 use Rattle.segments.specs.FixedFloors.{IsUnsealed}
 use Rattle.segments.proofs.FixedChecksEnds.{looks_failed}
 use Rattle.segments.proofs.FixedFloorLemmas.{unsealed_less}

@@ -3,8 +3,8 @@ use Rattle.std.proofs.Common.{◌≡◌, ◌⊎◌, inl, inr, ℕ, ◌+◌, ◌�
 use Rattle.std.specs.Option.{option_map}
 use Rattle.blob_device.specs.Disk.{Key}
 use Rattle.blob_device.specs.Opened.{Opened, OpenedList, updated, entered, with_len, one_more_read, reads_of, PartlyGrown}
-use Rattle.blob_device.proofs.Puts.{put_same}
-use Rattle.blob_device.proofs.OpenedLemmas.{updated_other}
+use Rattle.blob_device.specs.lemmas.Puts.{put_same}
+use Rattle.blob_device.specs.lemmas.Opened.{updated_other}
 use Rattle.sealed_pages.specs.Entries.{IsOpenAt, NoReads, ReadsAtMost}
 use Rattle.sealed_pages.specs.Reading.{OnlyRead}
 

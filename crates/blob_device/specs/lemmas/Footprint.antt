@@ -5,7 +5,7 @@ use Rattle.blob_device.specs.Opened.{reads_of}
 use Rattle.blob_device.specs.Timeline.{disk}
 use Rattle.blob_device.specs.Footprint.{AtLeastBound, AtMostBoth, Footprint, SameElsewhere}
 use Rattle.blob_device.specs.declared.device.Device as device
-use Rattle.blob_device.proofs.Moments.{always_start, always_then, always_weaker, always_now}
+use Rattle.blob_device.specs.lemmas.Moments.{always_start, always_then, always_weaker, always_now}
 
 module _ {D : Type 0} (dev : device.Ghosts D) where
   -- a device that stays as it is was not touched

@@ -1,0 +1,2 @@
+pub mod FixedErrors
+pub mod FixedOwed
