@@ -24,7 +24,7 @@ use Rattle.section_manager.specs.Sections.{section_key}
 use Rattle.section_manager.specs.declared.journal.Damage.{Damage}
 use Rattle.section_manager.specs.declared.journal.Error.TheVariants as journal
 use Rattle.segments.specs.FixedFloors.{IsRefused}
-use Rattle.segments.proofs.FixedKept.{prefix_data}
+use Rattle.segments.proofs.replay.Kept.{prefix_data}
 use Rattle.paired.specs.Kept.{IsMarked, Layout, Markers, content_at, is_sound_in, stored_records}
 use Rattle.paired.specs.Opening.{IsLawful, as_read}
 use Rattle.paired.specs.OpeningRefusing.{IsCutOff, IsLost, IsOutside, last_of}

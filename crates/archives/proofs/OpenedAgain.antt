@@ -15,8 +15,8 @@ use Rattle.section_manager.specs.SealedLaws.{no_chance}
 use Rattle.section_manager.specs.Sections.{key_of, section_key}
 use Rattle.section_manager.specs.Setting.{Setting}
 use Rattle.section_manager.specs.unsealed.Buffer.{Stands}
-use Rattle.segments.proofs.FixedWriteLemmas.{ArePages}
-use Rattle.segments.proofs.HadLemmas.{journal_had, sections_had}
+use Rattle.segments.proofs.adding.WriteLemmas.{ArePages}
+use Rattle.segments.proofs.adding.HadLemmas.{journal_had, sections_had}
 use Rattle.meta_store.specs.declared.error.Side.{Side}
 use Rattle.meta_store.specs.declared.error.Side.TheVariants.{Left, Right}
 use Rattle.meta_store.specs.Blobs.{blob_of}

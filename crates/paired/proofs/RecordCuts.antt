@@ -35,7 +35,7 @@ use Rattle.section_manager.proofs.sections.CutLemmas.{CutWalked, CutTried, CutCa
 use Rattle.section_manager.proofs.sections.OverLemmas.{same_key}
 use Rattle.section_manager.proofs.sections.SyncLemmas.{BufferLaws}
 use Rattle.segments.specs.FixedLists.{Lists, IsJournal, IsProven, section_bytes, section_size}
-use Rattle.segments.proofs.FixedWriteLemmas.{ArePages, are_pages, leaves_sealed, size_here, bytes_here}
+use Rattle.segments.proofs.adding.WriteLemmas.{ArePages, are_pages, leaves_sealed, size_here, bytes_here}
 use Rattle.paired.specs.Reconciling.{CutTo, Shortening}
 use Rattle.blob_device.proofs.general.Options.{none_or_value, some_of, some_same, value_of}
 

@@ -22,7 +22,7 @@ use Rattle.section_manager.specs.SealedLaws.{all_settled}
 use Rattle.section_manager.specs.Sections.{Sections, section_key, key_of}
 use Rattle.section_manager.specs.Setting.{Setting}
 use Rattle.segments.specs.FixedReplay.{Walk, Replaying}
-use Rattle.segments.proofs.FixedWriteLemmas.{ArePages}
+use Rattle.segments.proofs.adding.WriteLemmas.{ArePages}
 use Rattle.paired.specs.Crashes.{IsIndexOf, NoChanceSeal}
 use Rattle.paired.specs.Kept.{Layout, Markers, marker_of, content_at, stored_records, is_sound_in}
 use Rattle.paired.specs.Opening.{MayBeOpened, RecallsAlone}

@@ -34,9 +34,9 @@ use Rattle.segments.specs.declared.fixed.preflighting.Target.{Target}
 use Rattle.segments.specs.FixedChecks.{AreCheckable, ChecksMarker, LooksBelow, TakesFloor}
 use Rattle.segments.specs.FixedFloors.{Floors, IsBoundary, IsRefused, IsUnsealed}
 use Rattle.segments.specs.lemmas.FixedErrors.{codec_of}
-use Rattle.segments.proofs.FixedFloorLemmas.{over_read}
-use Rattle.segments.proofs.FixedReading.{failed_since}
-use Rattle.segments.proofs.FixedWriteLemmas.{ArePages}
+use Rattle.segments.proofs.opened.FloorLemmas.{over_read}
+use Rattle.segments.proofs.replay.Reading.{failed_since}
+use Rattle.segments.proofs.adding.WriteLemmas.{ArePages}
 
 -- an error of a read that is neither short nor of a page
 pub read_failed_last : {T U : Type 0} (raw : RError) (x : Error) (before now : ℕ) → x ≡ raised raw → (raw ≡ runtime.BlobInsufficientLength → ⊥) → ((k : ℕ) → raw ≡ runtime.InvalidChecksum k → ⊥)

@@ -28,11 +28,11 @@ use Rattle.section_manager.specs.declared.journal.Error.TheVariants.{ItemOutOfRa
 use Rattle.segments.specs.FixedCursor.{leaving, Ends, Fills, IsFoundShort}
 use Rattle.segments.specs.FixedReplay.{Place, Walk, IsWalk, kept_bytes}
 use Rattle.segments.specs.FixedStepping.{standing, EndsAt}
-use Rattle.segments.proofs.FixedEnds.{ends_kept}
-use Rattle.segments.proofs.FixedFilling.{fills_as, filled, filled_failed, filled_out, filled_short, found_short, never_ok, page_is, same_ok}
-use Rattle.segments.proofs.FixedGoing.{ends_as}
-use Rattle.segments.proofs.FixedReading.{end_uncut, end_refused, here}
-use Rattle.segments.proofs.FixedRunning.{ok_at, walk_same}
+use Rattle.segments.proofs.replay.Ends.{ends_kept}
+use Rattle.segments.proofs.replay.Filling.{fills_as, filled, filled_failed, filled_out, filled_short, found_short, never_ok, page_is, same_ok}
+use Rattle.segments.proofs.replay.Going.{ends_as}
+use Rattle.segments.proofs.replay.Reading.{end_uncut, end_refused, here}
+use Rattle.segments.proofs.replay.Running.{ok_at, walk_same}
 use Rattle.blob_device.proofs.general.Options.{some_same}
 
 module _ {F S : Type 0} {gs : _} (seal : List ℕ → ℕ) (size : ℕ) (g : buffer.Ghosts (PageBlob S gs)) (gives : F → Setting) {told : Type 0} (old : Walk F (PageBlob S gs)) (r : Place) (at : old.place ≡ Some r) (opened : OpenedList) (d : Disk)

@@ -33,12 +33,12 @@ use Rattle.section_manager.proofs.buffers.SealedCalls.{sound_page}
 use Rattle.section_manager.proofs.sections.LentLemmas.{lent_back, lent_none, lent_out, puts_back}
 use Rattle.segments.specs.FixedReplay.{Walk}
 use Rattle.segments.specs.FixedStepping.{OnlySections, Touches, IsCutBack, CutsBack}
-use Rattle.segments.proofs.FixedBuffers.{cut_at, no_cut_moments, cut_moved}
-use Rattle.segments.proofs.FixedCalls.{cut_stands}
-use Rattle.segments.proofs.FixedCounts.{few_reads}
-use Rattle.segments.proofs.FixedErrorSteps.{raised_cut}
+use Rattle.segments.proofs.held.Buffers.{cut_at, no_cut_moments, cut_moved}
+use Rattle.segments.proofs.held.Calls.{cut_stands}
+use Rattle.segments.proofs.replay.Counts.{few_reads}
+use Rattle.segments.proofs.replay.ErrorSteps.{raised_cut}
 use Rattle.segments.specs.lemmas.FixedErrors.{runtime_of}
-use Rattle.segments.proofs.FixedWriteLemmas.{ArePages}
+use Rattle.segments.proofs.adding.WriteLemmas.{ArePages}
 use Rattle.blob_device.proofs.general.Options.{same_some}
 
 safe_cut : (seal : List ℕ → ℕ) (u : Buffer) (n : ℕ) (b : Blob) → IsAdopted seal u b → n ≤ length (sealed_prefix seal u.page_size b.content) → IsSafeCut seal u n b

@@ -27,13 +27,13 @@ use Rattle.section_manager.specs.managing.Lent.{OnlyTouches}
 use Rattle.section_manager.specs.managing.Opening.{Takes}
 use Rattle.segments.specs.FixedReplay.{Walk}
 use Rattle.segments.specs.FixedStepping.{OnlySections, IsFlushed, BeginsOver, OpensReader}
-use Rattle.segments.proofs.FixedAppendLemmas.{steady_start}
-use Rattle.segments.proofs.FixedBuffers.{flushed_at}
-use Rattle.segments.proofs.FixedCalls.{flush_stands}
-use Rattle.segments.proofs.FixedCounts.{no_reads}
-use Rattle.segments.proofs.FixedErrorSteps.{raised_failed}
+use Rattle.segments.proofs.adding.AppendLemmas.{steady_start}
+use Rattle.segments.proofs.held.Buffers.{flushed_at}
+use Rattle.segments.proofs.held.Calls.{flush_stands}
+use Rattle.segments.proofs.replay.Counts.{no_reads}
+use Rattle.segments.proofs.replay.ErrorSteps.{raised_failed}
 use Rattle.segments.proofs.FixedLending.{AreAlike, own_key, own_stands, page_touches, page_steps, taken_same, touched_none, touched_out, touched_back}
-use Rattle.segments.proofs.FixedWriteLemmas.{ArePages}
+use Rattle.segments.proofs.adding.WriteLemmas.{ArePages}
 use Rattle.blob_device.proofs.general.Options.{same_some}
 
 module _ {F S D : Type 0} (Q : Type 0) {gs : _} (seal : List ℕ → ℕ) (g : buffer.Ghosts (PageBlob S gs)) (gives : F → Setting) (are : ArePages g seal) (alike : AreAlike g) (dev : device.Ghosts D)

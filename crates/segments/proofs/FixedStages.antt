@@ -22,11 +22,11 @@ use Rattle.segments.specs.FixedChecks.{AreCheckable}
 use Rattle.segments.specs.FixedFloors.{Floors}
 use Rattle.segments.specs.FixedLists.{Lists, section_size}
 use Rattle.segments.specs.FixedOpens.{Opens}
-use Rattle.segments.proofs.FixedEarlier.{Come, come_moved}
-use Rattle.segments.proofs.FixedFloorLemmas.{AreOpened, opened_read}
-use Rattle.segments.proofs.FixedFound.{reaches}
-use Rattle.segments.proofs.FixedPreflights.{adopted_of, held_of, settling_more, looks_at, come_at, checks_looks}
-use Rattle.segments.proofs.FixedWriteLemmas.{ArePages}
+use Rattle.segments.proofs.checkpoint.Earlier.{Come, come_moved}
+use Rattle.segments.proofs.opened.FloorLemmas.{AreOpened, opened_read}
+use Rattle.segments.proofs.checkpoint.Found.{reaches}
+use Rattle.segments.proofs.checkpoint.Preflights.{adopted_of, held_of, settling_more, looks_at, come_at, checks_looks}
+use Rattle.segments.proofs.adding.WriteLemmas.{ArePages}
 
 module _ {S D : Type 0} {gs : _} (seal : List ℕ → ℕ) (g : buffer.Ghosts (PageBlob S gs)) (gives : AppendFactory S → Setting) (dev : device.Ghosts D) (p : List ℕ) (paged : Pages) (capacity at : ℕ) (old : D) where
   -- The sections m, at this state of the device.

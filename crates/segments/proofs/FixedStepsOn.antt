@@ -22,9 +22,9 @@ use Rattle.segments.specs.FixedItems.{IsItem}
 use Rattle.segments.specs.FixedReplay.{Place, Walk, IsWalk, first_of, kept_bytes}
 use Rattle.segments.specs.FixedStepping.{standing, after_item, Steps}
 use Rattle.segments.proofs.FixedFills.{back, there}
-use Rattle.segments.proofs.FixedGoing.{going_filled, hand_filled, last_filled, stands_filled, step_filled, step_stopped}
-use Rattle.segments.proofs.FixedReading.{here, item_steps}
-use Rattle.segments.proofs.FixedRunning.{steps_same}
+use Rattle.segments.proofs.replay.Going.{going_filled, hand_filled, last_filled, stands_filled, step_filled, step_stopped}
+use Rattle.segments.proofs.replay.Reading.{here, item_steps}
+use Rattle.segments.proofs.replay.Running.{steps_same}
 use Rattle.blob_device.proofs.general.Numbers.{times_next}
 use Rattle.blob_device.proofs.general.Options.{some_of}
 use Rattle.blob_device.proofs.general.Results.{on_err}

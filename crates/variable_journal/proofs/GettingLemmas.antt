@@ -19,7 +19,7 @@ use Rattle.section_manager.specs.declared.journal.Error.{Error}
 use Rattle.section_manager.specs.declared.journal.Error.TheVariants.{AlreadyPrunedToSection, Codec, Runtime, SectionOutOfRange}
 use Rattle.segments.specs.FixedLists.{Lists, section_bytes}
 use Rattle.segments.specs.FixedReading.{IsAbsent, IsPast}
-use Rattle.segments.proofs.FixedSections.{bytes_own, own_here, size_here}
+use Rattle.segments.proofs.held.Sections.{bytes_own, own_here, size_here}
 use Rattle.variable_journal.specs.Reading.{FrameOf, Gets, IsPastLast, IsRefusedBy, Reads}
 
 module _ {F S V C D : Type 0} {gs : _} (seal : List ℕ → ℕ) (spelling : V → List ℕ) (accepted : V → C → Type 0) (refusal : List ℕ → C → Option codec.Error)

@@ -11,7 +11,7 @@ use Rattle.section_manager.specs.Sections.{key_of}
 use Rattle.section_manager.specs.Setting.{Setting}
 use Rattle.segments.specs.FixedLists.{Lists}
 use Rattle.segments.specs.FixedReplay.{IsDrained, kept_of}
-use Rattle.segments.proofs.FixedBeginning.{finished_sealed}
+use Rattle.segments.proofs.replay.Beginning.{finished_sealed}
 use Rattle.meta_store.proofs.Uses.{IsReadable}
 use Rattle.meta_store.specs.Store.{contents_of}
 use Rattle.paired.specs.Kept.{kept, marker_of}

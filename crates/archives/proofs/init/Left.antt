@@ -10,7 +10,7 @@ use Rattle.section_manager.specs.declared.buffer.SectionBuffer as buffer
 use Rattle.section_manager.specs.declared.unsealed.WriteFactory.{WriteFactory}
 use Rattle.section_manager.specs.Sections.{IsHeld, section_key}
 use Rattle.section_manager.specs.Setting.{Setting}
-use Rattle.segments.proofs.FixedWriteLemmas.{ArePages}
+use Rattle.segments.proofs.adding.WriteLemmas.{ArePages}
 use Rattle.meta_store.specs.Store.{contents_of}
 use Rattle.paired.specs.glob.Sections as glob
 use Rattle.paired.specs.glob.Sections.{IsAllSettled}

@@ -20,7 +20,7 @@ use Rattle.section_manager.specs.unsealed.Laws.{rested, found_again}
 use Rattle.section_manager.proofs.buffers.NothingSealed.{nothing_sealed}
 use Rattle.segments.specs.FixedLists as fixed
 use Rattle.segments.specs.FixedReplay.{kept_of}
-use Rattle.segments.proofs.FixedWriteLemmas.{ArePages}
+use Rattle.segments.proofs.adding.WriteLemmas.{ArePages}
 use Rattle.paired.specs.glob.Sections as glob
 use Rattle.paired.specs.Kept.{content_at, stored_records}
 use Rattle.paired.specs.Opening.{as_read}

@@ -23,8 +23,8 @@ use Rattle.section_manager.specs.declared.unsealed.WriteFactory.{WriteFactory}
 use Rattle.section_manager.specs.Sections.{IsHeld, key_of}
 use Rattle.section_manager.specs.Setting.{Setting}
 use Rattle.segments.specs.FixedReplay.{EndsBelow, IsAhead, IsGoneOver, IsIn, IsLeft, Place, ReadsIn, StandsIn, first_of, kept_bytes}
-use Rattle.segments.proofs.FixedKept.{covered_length, flushed_data, prefix_data, sealed_flushed}
-use Rattle.segments.proofs.FixedWriteLemmas.{ArePages}
+use Rattle.segments.proofs.replay.Kept.{covered_length, flushed_data, prefix_data, sealed_flushed}
+use Rattle.segments.proofs.adding.WriteLemmas.{ArePages}
 use Rattle.paired.specs.Kept.{Layout, content_at, is_sound_in, kept, stored_records}
 use Rattle.paired.specs.Opening.{as_read}
 use Rattle.paired.specs.Records.{entry_of, front, is_sound, records}

@@ -18,7 +18,7 @@ use Rattle.section_manager.specs.Setting.{Setting}
 use Rattle.segments.specs.FixedReading.{IsBelowFloor, HasNotRead}
 use Rattle.segments.specs.FixedReplay.{Walk, IsDrained, IsWalk, Replaying, EndsBelow, FindsDamage, kept_of, kept_bytes}
 use Rattle.segments.specs.FixedStepping.{way_of}
-use Rattle.segments.proofs.FixedWriteLemmas.{ArePages}
+use Rattle.segments.proofs.adding.WriteLemmas.{ArePages}
 use Rattle.meta_store.specs.Store.{contents_of}
 use Rattle.paired.specs.Crashes.{IsIndexOf, IsValuesOf, Keeping}
 use Rattle.paired.specs.glob.Sections as glob

@@ -17,7 +17,7 @@ use Rattle.section_manager.specs.Sections.{key_of}
 use Rattle.section_manager.specs.Setting.{Setting}
 use Rattle.segments.specs.FixedReading.{IsBelowFloor, HasNotRead}
 use Rattle.segments.specs.FixedReplay.{Walk, FindsDamage}
-use Rattle.segments.proofs.FixedWriteLemmas.{ArePages}
+use Rattle.segments.proofs.adding.WriteLemmas.{ArePages}
 use Rattle.paired.specs.Replaying.{Limits, Run, pair_of, HasFailed as HasErred, GivesRecord, IsRun}
 use Rattle.paired.proofs.GlobLemmas.{buffers}
 use Rattle.paired.proofs.next.Answers.{Clauses, images_now}

@@ -27,8 +27,8 @@ use Rattle.section_manager.specs.Setting.{Setting}
 use Rattle.segments.specs.FixedLists.{size_held}
 use Rattle.segments.specs.FixedReading.{IsBelowFloor, HasNotRead}
 use Rattle.segments.specs.FixedReplay.{Walk, IsWalk, EndsBelow, FindsDamage, Replaying, kept_of, kept_bytes}
-use Rattle.segments.proofs.FixedKept.{short_length, sealed_by_length, sealed_flushed}
-use Rattle.segments.proofs.FixedWriteLemmas.{ArePages}
+use Rattle.segments.proofs.replay.Kept.{short_length, sealed_by_length, sealed_flushed}
+use Rattle.segments.proofs.adding.WriteLemmas.{ArePages}
 use Rattle.meta_store.specs.Store.{contents_of}
 use Rattle.paired.specs.Kept.{content_at, stored_records}
 use Rattle.paired.specs.Opening.{as_read, IsLawful}

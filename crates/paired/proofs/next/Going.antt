@@ -20,8 +20,8 @@ use Rattle.segments.specs.FixedLists.{section_size, size_held}
 use Rattle.segments.specs.FixedReading.{IsBelowFloor, HasNotRead}
 use Rattle.segments.specs.FixedReplay.{Walk, IsLeft, EndsBelow, FindsDamage, kept_bytes}
 use Rattle.segments.specs.FixedStepping.{way_of}
-use Rattle.segments.proofs.FixedReading.{not_read_since, failed_since}
-use Rattle.segments.proofs.FixedWriteLemmas.{ArePages}
+use Rattle.segments.proofs.replay.Reading.{not_read_since, failed_since}
+use Rattle.segments.proofs.adding.WriteLemmas.{ArePages}
 use Rattle.paired.specs.Crashes.{IsIndexOf, IsValuesOf}
 use Rattle.paired.specs.glob.Sections.{IsGlob}
 use Rattle.paired.specs.Replaying.{Limits, Run, pair_of, records_over, records_given, IsDue, IsChecked, IsRun, GivesRecord, LosesRecords, IsCutting, IsUnspelled, LeftAtMost}

@@ -24,7 +24,7 @@ use Rattle.section_manager.specs.Setting.{Setting}
 use Rattle.section_manager.specs.lemmas.Keys.{key_injective}
 use Rattle.segments.specs.FixedReplay.{Walk, SameItems, Replaying}
 use Rattle.segments.specs.lemmas.FixedOwed.{same_items}
-use Rattle.segments.proofs.FixedWriteLemmas.{ArePages}
+use Rattle.segments.proofs.adding.WriteLemmas.{ArePages}
 use Rattle.meta_store.specs.Blobs.{blob_of, bytes_of}
 use Rattle.meta_store.specs.Crashes as metadata
 use Rattle.meta_store.specs.declared.error.Side.{Side}

@@ -17,7 +17,7 @@ use Rattle.section_manager.specs.Sections.{section_key, key_of, IsHeld}
 use Rattle.section_manager.specs.Setting.{Setting}
 use Rattle.segments.specs.FixedLists.{section_size, size_held}
 use Rattle.segments.specs.FixedReplay.{Walk, IsAhead, IsIn, IsWalk, Replaying, kept_of, kept_bytes}
-use Rattle.segments.proofs.FixedWriteLemmas.{ArePages}
+use Rattle.segments.proofs.adding.WriteLemmas.{ArePages}
 use Rattle.meta_store.specs.Blobs.{blob_of}
 use Rattle.meta_store.specs.declared.error.Side.{Side}
 use Rattle.paired.specs.glob.Sections.{IsGlob}

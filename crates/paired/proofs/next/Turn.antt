@@ -20,7 +20,7 @@ use Rattle.section_manager.specs.Sections.{section_key, key_of, IsHeld}
 use Rattle.section_manager.specs.Setting.{Setting}
 use Rattle.section_manager.specs.lemmas.Keys.{key_injective}
 use Rattle.segments.specs.FixedReplay.{Walk, IsLeft, IsWalk, Gives, Stops, kept_of, kept_bytes}
-use Rattle.segments.proofs.FixedWriteLemmas.{ArePages}
+use Rattle.segments.proofs.adding.WriteLemmas.{ArePages}
 use Rattle.meta_store.specs.Blobs.{blob_of}
 use Rattle.meta_store.specs.declared.error.Side.{Side}
 use Rattle.paired.specs.Crashes.{IsIndexOf, IsValuesOf}

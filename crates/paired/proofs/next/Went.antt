@@ -14,8 +14,8 @@ use Rattle.section_manager.specs.Setting.{Setting}
 use Rattle.section_manager.specs.Sections.{section_key, key_of, IsHeld, StandsOver}
 use Rattle.segments.specs.FixedReplay.{Walk, IsAhead, IsIn, SameWalk, SameItems, IsSameOrCut, KeepsSections, KeepsFloors, KeepsBytes, KeepsItems, IsWalk, WalksOver, Replaying, LeavesNoMore}
 use Rattle.segments.specs.lemmas.FixedOwed.{same_items, items_then, same_or_cut, cut_then}
-use Rattle.segments.proofs.FixedWalks.{same_bytes}
-use Rattle.segments.proofs.FixedWalksOn.{replaying_start}
+use Rattle.segments.proofs.replay.Walks.{same_bytes}
+use Rattle.segments.proofs.replay.WalksOn.{replaying_start}
 use Rattle.blob_device.proofs.general.Options.{same_some, some_of, some_there}
 
 pub same_bool : (x y : Bool) → (x ≡ true → y ≡ true) → (y ≡ true → x ≡ true) → x ≡ y

@@ -20,7 +20,7 @@ use Rattle.section_manager.specs.declared.journal.Damage.{Damage}
 use Rattle.section_manager.specs.Sections.{section_key}
 use Rattle.segments.specs.FixedFloors.{IsRefused}
 use Rattle.segments.specs.FixedItems.{item_count, item_at}
-use Rattle.segments.proofs.FixedKept.{item_kept, prefix_data}
+use Rattle.segments.proofs.replay.Kept.{item_kept, prefix_data}
 use Rattle.paired.specs.Kept.{Layout, Markers, IsMarked, content_at, stored_records, is_sound_in}
 use Rattle.paired.specs.Opening.{as_read, IsLawful, OnlyOpens}
 use Rattle.paired.specs.OpeningRefusing.{AreSpellings, IsCutOff, IsLost, IsOutside, IsUnreadable, last_of}

@@ -18,7 +18,7 @@ use Rattle.section_manager.specs.Sealed.{adopted_bytes}
 use Rattle.section_manager.specs.Sections.{section_key, key_of, IsHeld}
 use Rattle.segments.specs.FixedFloors.{IsRefused}
 use Rattle.segments.specs.FixedReplay.{Begins, IsLeft, kept_bytes, kept_of}
-use Rattle.segments.proofs.FixedKept.{prefix_data}
+use Rattle.segments.proofs.replay.Kept.{prefix_data}
 use Rattle.paired.specs.glob.Sections as glob
 use Rattle.paired.specs.Kept.{Layout, MarkerMap, IsMarked, marker_of, content_at}
 use Rattle.paired.specs.Opening.{as_read}

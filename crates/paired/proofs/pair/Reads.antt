@@ -33,7 +33,7 @@ use Rattle.section_manager.specs.unsealed.Buffer.{count_of}
 use Rattle.segments.specs.FixedItems.{item_count, item_at, IsItem}
 use Rattle.segments.specs.FixedLists as fixed
 use Rattle.segments.specs.FixedReading.{IsAbsent, IsPast, IsDamaged, HasNotRead}
-use Rattle.segments.proofs.FixedSections.{size_here, from_here, is_held, journal_read}
+use Rattle.segments.proofs.held.Sections.{size_here, from_here, is_held, journal_read}
 use Rattle.meta_store.specs.Blobs.{blob_of}
 use Rattle.meta_store.specs.declared.error.Side.TheVariants.{Left, Right}
 use Rattle.meta_store.specs.Store.{contents_of}

@@ -13,7 +13,7 @@ use Rattle.section_manager.specs.Setting.{Setting}
 use Rattle.section_manager.specs.lemmas.Keys.{key_injective}
 use Rattle.segments.specs.FixedLists.{Lists}
 use Rattle.segments.specs.FixedLists as fixed
-use Rattle.segments.proofs.FixedWriteLemmas.{ArePages}
+use Rattle.segments.proofs.adding.WriteLemmas.{ArePages}
 use Rattle.paired.specs.glob.Sections.{IsGlob}
 use Rattle.paired.specs.glob.Sections as glob
 use Rattle.paired.proofs.GlobLemmas.{buffers, glob_stays}

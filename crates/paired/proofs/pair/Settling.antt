@@ -16,7 +16,7 @@ use Rattle.section_manager.specs.unsealed.Buffer.{content_of}
 use Rattle.section_manager.specs.lemmas.Keys.{key_injective}
 use Rattle.segments.specs.FixedLasting as fixed
 use Rattle.segments.specs.FixedLists.{Lists, IsJournal}
-use Rattle.segments.proofs.FixedWriteLemmas.{ArePages}
+use Rattle.segments.proofs.adding.WriteLemmas.{ArePages}
 use Rattle.meta_store.specs.Store.{contents_of}
 use Rattle.paired.specs.Crashes.{IsIndexOf, IsValuesOf, IsBlobOf, IsCopy, IsOwn, InOrder, LeavesAlone, Keeping}
 use Rattle.paired.specs.glob.Lasting.{Outlasts}

@@ -19,7 +19,7 @@ use Rattle.section_manager.specs.Sections.{Sections, section_key, key_of, IsHeld
 use Rattle.section_manager.specs.Setting.{Setting}
 use Rattle.segments.specs.FixedLists.{Lists, IsJournal}
 use Rattle.segments.specs.FixedLists as fixed
-use Rattle.segments.proofs.FixedWriteLemmas.{ArePages}
+use Rattle.segments.proofs.adding.WriteLemmas.{ArePages}
 use Rattle.value_codec.specs.declared.key.Key8.{Key8}
 use Rattle.value_codec.specs.Keys.{key8_bytes}
 use Rattle.meta_store.specs.declared.error.Side.{Side}

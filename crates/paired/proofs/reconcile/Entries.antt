@@ -16,7 +16,7 @@ use Rattle.section_manager.specs.lemmas.Keys.{key_injective}
 use Rattle.segments.specs.FixedLists.{Lists}
 use Rattle.segments.specs.FixedLists as fixed
 use Rattle.segments.specs.FixedReplay.{Walk, IsDrained}
-use Rattle.segments.proofs.FixedWriteLemmas.{ArePages}
+use Rattle.segments.proofs.adding.WriteLemmas.{ArePages}
 use Rattle.value_codec.specs.Keys.{key8_one}
 use Rattle.value_codec.specs.SpellingLaws.{u64_one_value}
 use Rattle.value_codec.specs.declared.seal.Seal as seal

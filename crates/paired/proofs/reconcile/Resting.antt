@@ -25,7 +25,7 @@ use Rattle.section_manager.specs.unsealed.Laws.{rested, found_again}
 use Rattle.section_manager.proofs.buffers.NothingSealed.{nothing_sealed}
 use Rattle.segments.specs.FixedLists.{Lists, IsJournal, IsProven}
 use Rattle.segments.specs.FixedLists as fixed
-use Rattle.segments.proofs.FixedWriteLemmas.{ArePages}
+use Rattle.segments.proofs.adding.WriteLemmas.{ArePages}
 use Rattle.std.proofs.lemmas.List.Elements.{Contains-push}
 use Rattle.value_codec.specs.declared.key.Key8.{Key8}
 use Rattle.meta_store.specs.declared.error.Side.{Side}

@@ -13,7 +13,7 @@ use Rattle.section_manager.specs.Setting.{Setting}
 use Rattle.segments.specs.FixedLists.{Lists, IsJournal, IsProven, OwesHeld, OwesSettled, AreSealed, UnopenedLater}
 use Rattle.segments.specs.FixedLists as fixed
 use Rattle.segments.specs.FixedReplay.{HasWalk, WalksOver, IsDrained, IsLeft, kept_of, kept_bytes}
-use Rattle.segments.proofs.FixedWriteLemmas.{ArePages}
+use Rattle.segments.proofs.adding.WriteLemmas.{ArePages}
 use Rattle.paired.specs.glob.Sections as glob
 use Rattle.paired.specs.Kept.{content_at, stored_records, is_sound_in, kept}
 use Rattle.paired.specs.Opening.{as_read, Same}

@@ -1,6 +1,6 @@
 use Rattle.std.proofs.Common.{refl, arith, ◌≤◌}
 use Rattle.blob_device.specs.Timeline.{disk}
-use Rattle.segments.proofs.FixedWriteLemmas.{are_pages}
+use Rattle.segments.proofs.adding.WriteLemmas.{are_pages}
 use Rattle.paired.proofs.reconcile.Entries.{markers_readable}
 use Rattle.archives.specs.Shown.{shown}
 use Rattle.archives.proofs.MachineTerms.{allowed, has_no_version_now, passed, passes}

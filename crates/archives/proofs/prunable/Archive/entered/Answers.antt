@@ -8,7 +8,7 @@ use Rattle.archives.proofs.DrainsLemmas.{drained, entry_is, not_entered, not_wal
 use Rattle.blob_device.specs.Timeline.{disk}
 use Rattle.value_codec.specs.Spelling.{size_refusal}
 use Rattle.section_manager.specs.contracts.sealed.PageBlobSectionBuffer.TheImpl as page_blob
-use Rattle.segments.proofs.FixedWriteLemmas.{are_pages}
+use Rattle.segments.proofs.adding.WriteLemmas.{are_pages}
 use Rattle.paired.specs.ReplayShown.{run_of}
 use Rattle.paired.proofs.next.Answers.{Clauses}
 use Rattle.paired.proofs.next.Glue.{here_run}

@@ -17,7 +17,7 @@ use Rattle.meta_store.specs.Store.{contents_of}
 use Rattle.paired.specs.Crashes.{HoldMarkers, IsOwn}
 use Rattle.sealed_pages.specs.declared.page_blob.PageBlob.{PageBlob}
 use Rattle.section_manager.specs.declared.sealed.AppendFactory.{AppendFactory}
-use Rattle.segments.proofs.FixedWriteLemmas.{are_pages}
+use Rattle.segments.proofs.adding.WriteLemmas.{are_pages}
 use Rattle.paired.specs.Kept.{content_at, IsMarked, IsSameLayout, Markers}
 use Rattle.paired.specs.Opening.{IsLawful, MayBeOpened, OnlyOpens, RecallsAlone, as_read}
 use Rattle.paired.specs.OpeningFound.{HasFound}

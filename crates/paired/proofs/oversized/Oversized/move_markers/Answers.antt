@@ -5,7 +5,7 @@ use Rattle.blob_device.specs.Disk.{Key}
 use Rattle.blob_device.specs.Timeline.{disk}
 use Rattle.section_manager.specs.Raised.{raised_metadata}
 use Rattle.blob_device.specs.lemmas.Moments.{always_now, always_start, always_weaker}
-use Rattle.segments.proofs.FixedWriteLemmas.{are_pages}
+use Rattle.segments.proofs.adding.WriteLemmas.{are_pages}
 use Rattle.meta_store.specs.Blobs.{blob_of, other_side, OnlyOne}
 use Rattle.meta_store.specs.Calls.{IsOpened}
 use Rattle.meta_store.specs.Crashes as metadata

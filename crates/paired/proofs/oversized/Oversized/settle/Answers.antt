@@ -5,7 +5,7 @@ use Rattle.blob_device.specs.Timeline.{disk}
 use Rattle.section_manager.specs.managing.Managed as manager
 use Rattle.segments.specs.FixedLists.{section_size}
 use Rattle.segments.specs.FixedShown as fixed
-use Rattle.segments.proofs.FixedWriteLemmas.{are_pages}
+use Rattle.segments.proofs.adding.WriteLemmas.{are_pages}
 use Rattle.paired.specs.Kept.{marker_of}
 use Rattle.paired.specs.PairShown.{shown}
 use Rattle.paired.specs.sighted.Shown as tracked
@@ -14,7 +14,7 @@ use Rattle.paired.proofs.pair.Failing.{no_error, pruned_ok, values_refused, valu
 use Rattle.paired.proofs.pair.Settling.{index_entry, values_entry, index_synced_of, values_synced_of, parts_of, settle_index_alone, settle_index_untouched, settle_index_order, settle_index_keeps, settle_alone, settle_untouched, settle_order, settle_keeps}
 use Rattle.paired.proofs.pair.Synced.{here_of, values_ready, settled_as, settled_sound_as, lists_same, lengths_same, held_same, values_held_as, values_same_size, named_synced, others_synced}
 use Rattle.paired.proofs.tracking.Lemmas.{Noted}
-use Rattle.segments.proofs.FixedPassing.{pruned_on}
+use Rattle.segments.proofs.held.Passing.{pruned_on}
 use Rattle.paired.proofs.pair.Passing.{no_value}
 use Rattle.paired.proofs.pair.Pruned.{pruned_as}
 use Rattle.paired.proofs.oversized.Oversized.settle.Goals as goal

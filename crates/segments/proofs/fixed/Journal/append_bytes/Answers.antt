@@ -23,13 +23,13 @@ use Rattle.section_manager.proofs.sections.LentLemmas.{lent_back}
 use Rattle.segments.specs.FixedFull.{full_or_raised_of}
 use Rattle.segments.specs.FixedLists.{section_size}
 use Rattle.segments.specs.FixedShown.{shown}
-use Rattle.segments.proofs.FixedAdding.{Took, along_taken, along_untaken, buffer_error, buffer_well, error_is, failed, mem_not_full, mem_not_pruned, took_of, taken_cause, taken_not_full, too_many, too_many_taken, why_cause, why_not_pruned, why_of}
-use Rattle.segments.proofs.FixedAppendLemmas.{Added, added_stands, append_journal, appended_adopted, at_ok, full_is, same_setting, taken_adopted, taken_bytes, taken_size, taken_still, was_err, was_ok}
-use Rattle.segments.proofs.FixedCalls.{bounds_then, same_then}
-use Rattle.segments.proofs.FixedPassing.{guard_ok, guard_on, no_error}
-use Rattle.segments.proofs.FixedSpared.{bytes_spared}
-use Rattle.segments.proofs.FixedWriteLemmas.{are_pages, bytes_here, size_here}
-use Rattle.segments.proofs.TailLemmas.{appended_tail}
+use Rattle.segments.proofs.adding.Adding.{Took, along_taken, along_untaken, buffer_error, buffer_well, error_is, failed, mem_not_full, mem_not_pruned, took_of, taken_cause, taken_not_full, too_many, too_many_taken, why_cause, why_not_pruned, why_of}
+use Rattle.segments.proofs.adding.AppendLemmas.{Added, added_stands, append_journal, appended_adopted, at_ok, full_is, same_setting, taken_adopted, taken_bytes, taken_size, taken_still, was_err, was_ok}
+use Rattle.segments.proofs.held.Calls.{bounds_then, same_then}
+use Rattle.segments.proofs.held.Passing.{guard_ok, guard_on, no_error}
+use Rattle.segments.proofs.adding.Spared.{bytes_spared}
+use Rattle.segments.proofs.adding.WriteLemmas.{are_pages, bytes_here, size_here}
+use Rattle.segments.proofs.adding.TailLemmas.{appended_tail}
 use Rattle.segments.proofs.fixed.Journal.append_bytes.Goals as goal
 use Rattle.blob_device.proofs.general.Options.{some_same}
 use Rattle.blob_device.proofs.general.Results.{err_of}

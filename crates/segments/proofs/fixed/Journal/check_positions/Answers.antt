@@ -1,5 +1,5 @@
 use Rattle.std.proofs.Common.{◌≡◌, get_or, arith}
-use Rattle.segments.proofs.FixedReadLemmas.{stands_before}
+use Rattle.segments.proofs.looking.ReadLemmas.{stands_before}
 use Rattle.segments.proofs.fixed.Journal.check_positions.Goals as goal
 
 pub returns-then-position-count-clause-first : goal.returns-then-position-count-clause-first

@@ -4,7 +4,7 @@ use Rattle.std.specs.List.{list_any}
 use Rattle.std.specs.Ordering.{nat_cmp}
 use Rattle.section_manager.specs.lemmas.Seen.{err_seen}
 use Rattle.segments.specs.FixedShown.{shown}
-use Rattle.segments.proofs.FixedRemovingEnds.{clear_failed, cleared_all}
+use Rattle.segments.proofs.cutting.RemovingEnds.{clear_failed, cleared_all}
 use Rattle.segments.proofs.fixed.Journal.clear.Goals as goal
 
 pub returns-in_err-this : goal.returns-in_err-this

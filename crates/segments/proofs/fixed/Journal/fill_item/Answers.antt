@@ -9,9 +9,9 @@ use Rattle.sealed_pages.proofs.memory.Holding.{fit_size}
 use Rattle.sealed_pages.proofs.looking.Looking.{unchanged_start}
 use Rattle.section_manager.specs.Raised.{raised}
 use Rattle.segments.specs.lemmas.FixedErrors.{of_buffer, read_fails}
-use Rattle.segments.proofs.FixedItemReads.{no_reads}
-use Rattle.segments.proofs.FixedMemory.{covered_item, told_held, held_covered, missing_most}
-use Rattle.segments.proofs.FixedReadLemmas.{read_item, short_item}
+use Rattle.segments.proofs.looking.ItemReads.{no_reads}
+use Rattle.segments.proofs.looking.Memory.{covered_item, told_held, held_covered, missing_most}
+use Rattle.segments.proofs.looking.ReadLemmas.{read_item, short_item}
 use Rattle.segments.proofs.fixed.Journal.fill_item.Goals as goal
 use Rattle.blob_device.proofs.general.Numbers.{item_ends}
 use Rattle.blob_device.proofs.general.Results.{err_of}

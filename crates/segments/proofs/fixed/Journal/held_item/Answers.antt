@@ -4,8 +4,8 @@ use Rattle.sealed_pages.specs.Buffer.{size_of, bytes_of}
 use Rattle.sealed_pages.specs.Shown.{shown}
 use Rattle.sealed_pages.proofs.memory.Holding.{fit_size}
 use Rattle.segments.specs.FixedItems.{item_at}
-use Rattle.segments.proofs.FixedMemory.{cache_for, told_held}
-use Rattle.segments.proofs.FixedReadLemmas.{read_item}
+use Rattle.segments.proofs.looking.Memory.{cache_for, told_held}
+use Rattle.segments.proofs.looking.ReadLemmas.{read_item}
 use Rattle.segments.proofs.fixed.Journal.held_item.Goals as goal
 use Rattle.blob_device.proofs.general.Numbers.{item_ends}
 

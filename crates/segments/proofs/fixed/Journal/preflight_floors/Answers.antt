@@ -14,9 +14,9 @@ use Rattle.section_manager.specs.declared.sealed.AppendFactory.{AppendFactory}
 use Rattle.section_manager.specs.Sections.{Sections}
 use Rattle.segments.specs.FixedFloors.{Floors, shown, journal_of}
 use Rattle.segments.specs.FixedLists.{Lists}
-use Rattle.segments.proofs.FixedOpenLemmas.{opened_journal}
-use Rattle.segments.proofs.FixedWriteLemmas.{are_pages}
-use Rattle.segments.proofs.FixedFloorLemmas.{Checked, checked_none, checked_more, reaches, within, last_taken}
+use Rattle.segments.proofs.opened.OpenLemmas.{opened_journal}
+use Rattle.segments.proofs.adding.WriteLemmas.{are_pages}
+use Rattle.segments.proofs.opened.FloorLemmas.{Checked, checked_none, checked_more, reaches, within, last_taken}
 use Rattle.segments.proofs.FixedMarkers.{floors_opening, floors_owing, floors_marker, marker_stage, marker_taken, all_taken, none_taken}
 use Rattle.segments.proofs.FixedStages.{stage_opened, stage_same, stage_checkable}
 use Rattle.segments.proofs.fixed.Journal.preflight_floors.Given.{Over}

@@ -4,7 +4,7 @@ use Rattle.std.specs.Ordering.{nat_cmp}
 use Rattle.section_manager.specs.contracts.sealed.PageBlobSectionBuffer.TheImpl.{ghosts}
 use Rattle.section_manager.specs.declared.sealed.AppendFactory.{AppendFactory}
 use Rattle.segments.specs.FixedFloors.{shown, journal_of}
-use Rattle.segments.proofs.FixedFloorLemmas.{Checked}
+use Rattle.segments.proofs.opened.FloorLemmas.{Checked}
 use Rattle.segments.proofs.FixedStages.{Stage}
 use Rattle.segments.proofs.fixed.Journal.preflight_floors.Given as goal
 use Rattle.blob_device.proofs.general.Maps.{numbers_of}

@@ -1,6 +1,6 @@
 use Rattle.section_manager.specs.lemmas.Seen.{err_seen}
 use Rattle.segments.specs.FixedShown.{flagged, shown}
-use Rattle.segments.proofs.FixedRemovingEnds.{prune_failed, pruned_all}
+use Rattle.segments.proofs.cutting.RemovingEnds.{prune_failed, pruned_all}
 use Rattle.segments.proofs.fixed.Journal.prune.Goals as goal
 
 pub returns-in_err-manager : goal.returns-in_err-manager

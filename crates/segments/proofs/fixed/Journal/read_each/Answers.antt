@@ -15,10 +15,10 @@ use Rattle.sealed_pages.proofs.looking.Looking.{unchanged_now, unchanged_then}
 use Rattle.section_manager.specs.declared.journal.Error.TheVariants.{Runtime, Codec, Mem}
 use Rattle.segments.specs.FixedItems.{item_at}
 use Rattle.segments.specs.FixedReading.{is_item_held, IsDamaged, IsItemCovered}
-use Rattle.segments.proofs.FixedItemReads.{each_failed}
+use Rattle.segments.proofs.looking.ItemReads.{each_failed}
 use Rattle.segments.specs.lemmas.FixedErrors.{of_error, read_failed}
-use Rattle.segments.proofs.FixedMemory.{count_within}
-use Rattle.segments.proofs.FixedReadLemmas.{none_next, none_here, reads_one, reads_next, reads_here}
+use Rattle.segments.proofs.looking.Memory.{count_within}
+use Rattle.segments.proofs.looking.ReadLemmas.{none_next, none_here, reads_one, reads_next, reads_here}
 use Rattle.segments.proofs.fixed.Journal.read_each.Goals as goal
 use Rattle.blob_device.proofs.general.Results.{err_of, err_with}
 

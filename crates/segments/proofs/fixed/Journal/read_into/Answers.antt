@@ -1,5 +1,5 @@
 use Rattle.section_manager.specs.lemmas.Seen.{err_seen}
-use Rattle.segments.proofs.FixedItemReads.{reads_failed, reads_coded, reads_got}
+use Rattle.segments.proofs.looking.ItemReads.{reads_failed, reads_coded, reads_got}
 use Rattle.segments.proofs.fixed.Journal.read_into.Goals as goal
 
 pub returns-in_err-held-clause-reads : goal.returns-in_err-held-clause-reads

@@ -1,4 +1,4 @@
-use Rattle.segments.proofs.FixedItemReads.{reads_as, reads_none}
+use Rattle.segments.proofs.looking.ItemReads.{reads_as, reads_none}
 use Rattle.segments.proofs.fixed.Journal.read_item.Goals as goal
 use Rattle.blob_device.proofs.general.Results.{err_of}
 

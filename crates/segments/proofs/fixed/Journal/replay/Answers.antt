@@ -5,8 +5,8 @@ use Rattle.blob_device.specs.Timeline.{disk}
 use Rattle.sealed_pages.specs.Buffer.{size_of}
 use Rattle.sealed_pages.specs.Shown as page_blob
 use Rattle.segments.specs.FixedShown.{shown}
-use Rattle.segments.proofs.FixedBeginning.{begins_walk}
-use Rattle.segments.proofs.FixedReading.{some_and}
+use Rattle.segments.proofs.replay.Beginning.{begins_walk}
+use Rattle.segments.proofs.replay.Reading.{some_and}
 use Rattle.segments.proofs.fixed.Journal.replay.Goals as goal
 
 pub is_past-requires : goal.is_past-requires

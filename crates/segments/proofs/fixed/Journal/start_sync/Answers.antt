@@ -1,6 +1,6 @@
 use Rattle.segments.specs.FixedShown.{shown}
 use Rattle.section_manager.specs.lemmas.Seen.{err_seen}
-use Rattle.segments.proofs.FixedSettlingEnds.{settles_as}
+use Rattle.segments.proofs.adding.SettlingEnds.{settles_as}
 use Rattle.segments.proofs.fixed.Journal.start_sync.Goals as goal
 
 pub returns-in_err-this : goal.returns-in_err-this

@@ -3,8 +3,8 @@ use Rattle.std.specs.List.{Contains}
 use Rattle.section_manager.specs.contracts.sealed.PageBlobSectionBuffer.TheImpl.{ghosts}
 use Rattle.section_manager.specs.lemmas.Seen.{err_seen}
 use Rattle.segments.specs.FixedShown.{shown}
-use Rattle.segments.proofs.FixedSettlingEnds.{settle_failed, settled_all}
-use Rattle.segments.proofs.FixedWriteLemmas.{are_pages}
+use Rattle.segments.proofs.adding.SettlingEnds.{settle_failed, settled_all}
+use Rattle.segments.proofs.adding.WriteLemmas.{are_pages}
 use Rattle.segments.proofs.fixed.Journal.sync.Goals as goal
 use Rattle.blob_device.proofs.general.Lists.{contains_or_not}
 

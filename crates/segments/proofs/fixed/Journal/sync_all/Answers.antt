@@ -3,8 +3,8 @@ use Rattle.std.proofs.Common.{inl, refl}
 use Rattle.section_manager.specs.contracts.sealed.PageBlobSectionBuffer.TheImpl.{ghosts}
 use Rattle.section_manager.specs.lemmas.Seen.{err_seen}
 use Rattle.segments.specs.FixedShown.{shown}
-use Rattle.segments.proofs.FixedSettlingEnds.{settle_failed, settled_all}
-use Rattle.segments.proofs.FixedWriteLemmas.{are_pages}
+use Rattle.segments.proofs.adding.SettlingEnds.{settle_failed, settled_all}
+use Rattle.segments.proofs.adding.WriteLemmas.{are_pages}
 use Rattle.segments.proofs.fixed.Journal.sync_all.Goals as goal
 
 pub returns-in_err-this : goal.returns-in_err-this

@@ -4,7 +4,7 @@ use Rattle.std.specs.Prelude.{nat_le}
 use Rattle.std.specs.List.{filter}
 use Rattle.std.proofs.lemmas.Bool.{le-leb, lt-leb}
 use Rattle.std.proofs.lemmas.Map.Made.{filter_same_pairs}
-use Rattle.segments.proofs.FixedFloorLemmas.{floor_kept, floor_lifted}
+use Rattle.segments.proofs.opened.FloorLemmas.{floor_kept, floor_lifted}
 use Rattle.segments.proofs.fixed.floors.lift_after.Goals as goal
 
 pub returns-clause-later : goal.returns-clause-later

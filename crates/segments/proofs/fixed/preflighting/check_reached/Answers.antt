@@ -14,7 +14,7 @@ use Rattle.section_manager.specs.declared.journal.Damage.{Damage}
 use Rattle.section_manager.specs.declared.journal.Error.TheVariants.{Corruption}
 use Rattle.section_manager.specs.managing.Managed.{shown}
 use Rattle.segments.specs.FixedLists.{floor_in, section_size}
-use Rattle.segments.proofs.FixedFloorLemmas.{size_is}
+use Rattle.segments.proofs.opened.FloorLemmas.{size_is}
 use Rattle.segments.proofs.fixed.preflighting.check_reached.Goals as goal
 use Rattle.blob_device.proofs.general.Maps.{had_turn, numbers_of, numbers_push, numbers_shown}
 use Rattle.blob_device.proofs.general.Numbers.{same_number}

@@ -11,7 +11,7 @@ use Rattle.section_manager.specs.declared.journal.Error.TheVariants.{Codec, Corr
 use Rattle.section_manager.specs.Sections.{section_key, IsHeld}
 use Rattle.segments.specs.FixedReplay.{IsDrained}
 use Rattle.segments.specs.FixedShown as fixed
-use Rattle.segments.proofs.FixedWriteLemmas.{are_pages}
+use Rattle.segments.proofs.adding.WriteLemmas.{are_pages}
 use Rattle.paired.specs.Crashes.{IsCopy}
 use Rattle.paired.specs.PairShown.{shown}
 use Rattle.paired.specs.glob.Sections.{section_size}

@@ -5,7 +5,7 @@ use Rattle.section_manager.specs.contracts.sealed.PageBlobSectionBuffer.TheImpl 
 use Rattle.section_manager.specs.Sections.{key_of}
 use Rattle.segments.specs.FixedReplay.{SameWalk}
 use Rattle.segments.specs.FixedWalking.{walk_of}
-use Rattle.segments.proofs.FixedWriteLemmas.{are_pages}
+use Rattle.segments.proofs.adding.WriteLemmas.{are_pages}
 use Rattle.paired.specs.Replaying.{Run}
 use Rattle.paired.specs.ReplayShown.{limits_of, run_of}
 use Rattle.paired.proofs.next.Answers.{Clauses}

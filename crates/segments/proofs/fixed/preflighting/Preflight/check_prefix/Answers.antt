@@ -4,7 +4,7 @@ use Rattle.std.specs.Ordering.{nat_cmp}
 use Rattle.std.proofs.Common.{◌≡◌, ◌∙◌, Some, sym, ap, arith}
 use Rattle.blob_device.specs.Timeline.{disk}
 use Rattle.section_manager.specs.managing.Managed.{shown}
-use Rattle.segments.proofs.FixedPrefixes.{prefix_short, prefix_long}
+use Rattle.segments.proofs.checkpoint.Prefixes.{prefix_short, prefix_long}
 use Rattle.segments.proofs.fixed.preflighting.Preflight.check_prefix.Goals as goal
 
 pub returns-then-kept-size-clause-damage : goal.returns-then-kept-size-clause-damage

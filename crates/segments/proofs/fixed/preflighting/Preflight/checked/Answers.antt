@@ -5,9 +5,9 @@ use Rattle.blob_device.specs.Disk.{Key}
 use Rattle.blob_device.specs.Timeline.{disk}
 use Rattle.segments.specs.FixedFloors.{Floors, IsAdoptedOver, journal_of, shown}
 use Rattle.segments.proofs.FixedChecksEnds.{looks_own, marker_empty, marker_long, marker_missing, marker_refuses, marker_takes}
-use Rattle.segments.proofs.FixedFloorLemmas.{whole_items}
-use Rattle.segments.proofs.FixedSections.{is_held}
-use Rattle.segments.proofs.FixedWriteLemmas.{are_pages}
+use Rattle.segments.proofs.opened.FloorLemmas.{whole_items}
+use Rattle.segments.proofs.held.Sections.{is_held}
+use Rattle.segments.proofs.adding.WriteLemmas.{are_pages}
 use Rattle.segments.proofs.fixed.preflighting.Preflight.checked.Goals as goal
 use Rattle.blob_device.proofs.general.Results.{err_of}
 

@@ -7,8 +7,8 @@ use Rattle.sealed_pages.specs.declared.page_blob.PageBlob.{PageBlob}
 use Rattle.section_manager.specs.Sections.{Sections, IsHeld}
 use Rattle.section_manager.specs.declared.sealed.AppendFactory.{AppendFactory}
 use Rattle.segments.specs.FixedFloors.{shown, journal_of}
-use Rattle.segments.proofs.FixedChecking.{looks_err}
-use Rattle.segments.proofs.FixedEarlier.{gone_none, gone_more, gone_past, gone_to, gone_all, turn, looks_none, had_numbers, has_number}
+use Rattle.segments.proofs.checkpoint.Checking.{looks_err}
+use Rattle.segments.proofs.checkpoint.Earlier.{gone_none, gone_more, gone_past, gone_to, gone_all, turn, looks_none, had_numbers, has_number}
 use Rattle.segments.proofs.fixed.preflighting.Preflight.checked_earlier.Given.{Over}
 use Rattle.segments.proofs.fixed.preflighting.Preflight.checked_earlier.Goals as goal
 use Rattle.segments.proofs.fixed.preflighting.Preflight.checked_earlier.Goals.{then-number-section+in_ok-found, else-number-section}

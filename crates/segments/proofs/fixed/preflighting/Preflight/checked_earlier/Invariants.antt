@@ -2,7 +2,7 @@ use Rattle.std.proofs.Common.{take}
 use Rattle.section_manager.specs.contracts.sealed.PageBlobSectionBuffer.TheImpl.{ghosts}
 use Rattle.section_manager.specs.declared.sealed.AppendFactory.{AppendFactory}
 use Rattle.segments.specs.FixedFloors.{shown, journal_of}
-use Rattle.segments.proofs.FixedEarlier.{Gone}
+use Rattle.segments.proofs.checkpoint.Earlier.{Gone}
 use Rattle.segments.proofs.fixed.preflighting.Preflight.checked_earlier.Given as goal
 
 abbrev pub invariant-loop-number : goal.invariant-loop-number

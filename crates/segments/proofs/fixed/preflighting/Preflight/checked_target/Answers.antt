@@ -6,8 +6,8 @@ use Rattle.section_manager.specs.Setting.{Setting}
 use Rattle.section_manager.specs.contracts.sealed.PageBlobSectionBuffer.TheImpl.{ghosts}
 use Rattle.section_manager.specs.declared.sealed.AppendFactory.{AppendFactory}
 use Rattle.segments.specs.FixedFloors.{shown, journal_of}
-use Rattle.segments.proofs.FixedChecking.{looks_err, count_as}
-use Rattle.segments.proofs.FixedTargets.{no_target, target_err, prefix_err, target_found}
+use Rattle.segments.proofs.checkpoint.Checking.{looks_err, count_as}
+use Rattle.segments.proofs.checkpoint.Targets.{no_target, target_err, prefix_err, target_found}
 use Rattle.segments.proofs.fixed.preflighting.Preflight.checked_target.Given.{Over}
 use Rattle.segments.proofs.fixed.preflighting.Preflight.checked_target.Goals as goal
 use Rattle.blob_device.proofs.general.Results.{err_of}

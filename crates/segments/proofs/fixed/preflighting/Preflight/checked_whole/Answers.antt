@@ -3,9 +3,9 @@ use Rattle.blob_device.specs.Timeline.{disk}
 use Rattle.segments.specs.FixedBounds.{whole_of}
 use Rattle.segments.specs.FixedFloors.{shown, journal_of}
 use Rattle.segments.specs.FixedLists.{section_size}
-use Rattle.segments.proofs.FixedBoundLemmas.{size_is}
-use Rattle.segments.proofs.FixedChecking.{looks_partial, whole_looks, adopted_here, named_below, passes_below, boundary_earlier, whole_count, size_small}
-use Rattle.segments.proofs.FixedWriteLemmas.{are_pages}
+use Rattle.segments.proofs.opened.BoundLemmas.{size_is}
+use Rattle.segments.proofs.checkpoint.Checking.{looks_partial, whole_looks, adopted_here, named_below, passes_below, boundary_earlier, whole_count, size_small}
+use Rattle.segments.proofs.adding.WriteLemmas.{are_pages}
 use Rattle.segments.proofs.fixed.preflighting.Preflight.checked_whole.Goals as goal
 use Rattle.blob_device.proofs.general.Results.{err_of}
 

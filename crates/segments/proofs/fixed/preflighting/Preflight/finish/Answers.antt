@@ -1,5 +1,5 @@
 use Rattle.segments.specs.FixedFloors.{journal_of}
-use Rattle.segments.proofs.FixedRestored.{gives_same, finishes_some}
+use Rattle.segments.proofs.checkpoint.Restored.{gives_same, finishes_some}
 use Rattle.segments.proofs.fixed.preflighting.Preflight.finish.Goals as goal
 
 pub returns-in-None : goal.returns-in-None

@@ -2,8 +2,8 @@ use Rattle.std.proofs.Common.{◌≡◌, ◌-◌, ◌*◌, ◌+◌, ◌^◌, ◌
 use Rattle.blob_device.specs.Timeline.{disk}
 use Rattle.sealed_pages.specs.Buffer.{key_of, size_of}
 use Rattle.sealed_pages.specs.Shown.{shown}
-use Rattle.segments.proofs.FixedAdopted.{read_ok, read_adopted, covered_adopted, short_adopted, passes_adopted}
-use Rattle.segments.proofs.FixedFloorLemmas.{whole_end, read_cause}
+use Rattle.segments.proofs.looking.Adopted.{read_ok, read_adopted, covered_adopted, short_adopted, passes_adopted}
+use Rattle.segments.proofs.opened.FloorLemmas.{whole_end, read_cause}
 use Rattle.segments.proofs.fixed.preflighting.Preflight.read_last.Goals as goal
 use Rattle.blob_device.proofs.general.Results.{on_ok}
 

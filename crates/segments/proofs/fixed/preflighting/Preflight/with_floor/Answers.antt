@@ -4,7 +4,7 @@ use Rattle.std.proofs.lemmas.Bool.{false_from_ne_true}
 use Rattle.std.specs.BTreeMap.{get, is_at}
 use Rattle.std.specs.Ordering.{nat_cmp}
 use Rattle.segments.proofs.FixedChecksEnds.{floor_failed}
-use Rattle.segments.proofs.FixedFloorLemmas.{floors_have}
+use Rattle.segments.proofs.opened.FloorLemmas.{floors_have}
 use Rattle.segments.proofs.fixed.preflighting.Preflight.with_floor.Goals as goal
 use Rattle.blob_device.proofs.general.Numbers.{same_number}
 use Rattle.blob_device.proofs.general.Results.{err_of}

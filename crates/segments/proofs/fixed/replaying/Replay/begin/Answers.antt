@@ -9,8 +9,8 @@ use Rattle.sealed_pages.proofs.UnrecoveredLemmas.{adopted_backed}
 use Rattle.segments.specs.FixedReplay.{Walk, first_of}
 use Rattle.segments.specs.FixedStepping.{OnlySections}
 use Rattle.segments.specs.FixedWalking.{walk_of}
-use Rattle.segments.proofs.FixedOpening.{begin_failed, begin_begun, begin_fits, begin_small}
-use Rattle.segments.proofs.FixedErrorSteps.{failed_as}
+use Rattle.segments.proofs.replay.Opening.{begin_failed, begin_begun, begin_fits, begin_small}
+use Rattle.segments.proofs.replay.ErrorSteps.{failed_as}
 use Rattle.segments.proofs.fixed.replaying.Replay.begin.Goals as goal
 use Rattle.blob_device.proofs.general.Options.{some_of}
 

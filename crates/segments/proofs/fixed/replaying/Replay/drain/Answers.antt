@@ -5,7 +5,7 @@ use Rattle.section_manager.specs.contracts.sealed.PageBlobSectionBuffer.TheImpl 
 use Rattle.segments.specs.FixedShown.{shown}
 use Rattle.segments.specs.FixedWalking.{walk_of}
 use Rattle.segments.specs.declared.fixed.replaying.Replay.{Replay}
-use Rattle.segments.proofs.FixedDrainLemmas.{draining_start, draining_item, draining_none, draining_then, drains_err, drains_end, not_true}
+use Rattle.segments.proofs.replay.DrainLemmas.{draining_start, draining_item, draining_none, draining_then, drains_err, drains_end, not_true}
 use Rattle.segments.proofs.fixed.replaying.Replay.drain.Goals as goal
 use Rattle.blob_device.proofs.general.Results.{err_of}
 

@@ -1,7 +1,7 @@
 use Rattle.section_manager.specs.contracts.sealed.PageBlobSectionBuffer.TheImpl as impl
 use Rattle.segments.specs.FixedStepping.{way_of}
 use Rattle.segments.specs.FixedWalking.{walk_of}
-use Rattle.segments.proofs.FixedDrainLemmas.{Draining}
+use Rattle.segments.proofs.replay.DrainLemmas.{Draining}
 use Rattle.segments.proofs.fixed.replaying.Replay.drain.Given as goal
 
 abbrev pub invariant-items : goal.invariant-items

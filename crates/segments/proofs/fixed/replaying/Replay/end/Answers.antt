@@ -6,10 +6,10 @@ use Rattle.std.proofs.lemmas.Result.{err_from_is_err_and}
 use Rattle.section_manager.specs.declared.journal.Error.TheVariants.{ItemOutOfRange}
 use Rattle.segments.specs.FixedReplay.{Place, Walk}
 use Rattle.segments.specs.FixedWalking.{walk_of, place_of}
-use Rattle.segments.proofs.FixedFilling.{none_some}
+use Rattle.segments.proofs.replay.Filling.{none_some}
 use Rattle.segments.proofs.FixedFills.{back, there, place_small, ends_cut, ends_refused, ends_whole}
-use Rattle.segments.proofs.FixedGoing.{ends_as, if_some_at}
-use Rattle.segments.proofs.FixedOpening.{first_here}
+use Rattle.segments.proofs.replay.Going.{ends_as, if_some_at}
+use Rattle.segments.proofs.replay.Opening.{first_here}
 use Rattle.segments.proofs.fixed.replaying.Replay.end.Goals as goal
 use Rattle.blob_device.proofs.general.Options.{some_same}
 

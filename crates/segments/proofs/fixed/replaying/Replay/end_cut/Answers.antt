@@ -6,10 +6,10 @@ use Rattle.blob_device.specs.Timeline.{disk}
 use Rattle.sealed_pages.proofs.memory.Holding.{fit_size}
 use Rattle.section_manager.specs.declared.journal.Error.TheVariants.{Corruption, ItemOutOfRange}
 use Rattle.segments.specs.FixedWalking.{walk_of, place_of}
-use Rattle.segments.proofs.FixedCutting.{ends_below, cut_failed, cut_ended, cut_refused, cut_within, cut_prefix}
-use Rattle.segments.proofs.FixedOpening.{first_here}
-use Rattle.segments.proofs.FixedErrorSteps.{cut_as}
-use Rattle.segments.proofs.FixedReading.{here, reached_here, floor_refused}
+use Rattle.segments.proofs.replay.Cutting.{ends_below, cut_failed, cut_ended, cut_refused, cut_within, cut_prefix}
+use Rattle.segments.proofs.replay.Opening.{first_here}
+use Rattle.segments.proofs.replay.ErrorSteps.{cut_as}
+use Rattle.segments.proofs.replay.Reading.{here, reached_here, floor_refused}
 use Rattle.segments.proofs.fixed.replaying.Replay.end_cut.Goals as goal
 use Rattle.blob_device.proofs.general.Options.{some_of}
 

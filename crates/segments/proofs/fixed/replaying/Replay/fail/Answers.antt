@@ -1,6 +1,6 @@
 use Rattle.std.proofs.Common.{refl}
 use Rattle.segments.specs.FixedWalking.{walk_of}
-use Rattle.segments.proofs.FixedAdvancing.{walk_failed, walks_failed}
+use Rattle.segments.proofs.replay.Advancing.{walk_failed, walks_failed}
 use Rattle.segments.proofs.fixed.replaying.Replay.fail.Goals as goal
 
 pub returns : goal.returns

@@ -7,8 +7,8 @@ use Rattle.blob_device.specs.declared.runtime.RError.TheVariants.{InvalidChecksu
 use Rattle.sealed_pages.specs.Readers.{reading}
 use Rattle.segments.specs.FixedWalking.{walk_of, place_of}
 use Rattle.segments.specs.lemmas.FixedErrors.{runtime_of}
-use Rattle.segments.proofs.FixedErrorSteps.{raised_cut}
-use Rattle.segments.proofs.FixedFilling.{page_alone, none_some}
+use Rattle.segments.proofs.replay.ErrorSteps.{raised_cut}
+use Rattle.segments.proofs.replay.Filling.{page_alone, none_some}
 use Rattle.segments.proofs.FixedFills.{place_open, fills_read, fills_owed, fills_free, fills_failed}
 use Rattle.segments.proofs.fixed.replaying.Replay.fill.Goals as goal
 

@@ -1,6 +1,6 @@
 use Rattle.std.proofs.Common.{refl}
 use Rattle.segments.specs.FixedWalking.{walk_of}
-use Rattle.segments.proofs.FixedAdvancing.{walk_left, walks_left}
+use Rattle.segments.proofs.replay.Advancing.{walk_left, walks_left}
 use Rattle.segments.proofs.fixed.replaying.Replay.leave.Goals as goal
 
 pub returns : goal.returns

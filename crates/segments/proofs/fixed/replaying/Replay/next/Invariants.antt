@@ -2,7 +2,7 @@ use Rattle.std.specs.Prelude.{◌≡◌, true}
 use Rattle.section_manager.specs.contracts.sealed.PageBlobSectionBuffer.TheImpl as impl
 use Rattle.segments.specs.FixedStepping.{way_of}
 use Rattle.segments.specs.FixedWalking.{walk_of}
-use Rattle.segments.proofs.FixedRunning.{Running}
+use Rattle.segments.proofs.replay.Running.{Running}
 use Rattle.segments.proofs.fixed.replaying.Replay.next.Given as goal
 
 abbrev pub invariant-steps : goal.invariant-steps

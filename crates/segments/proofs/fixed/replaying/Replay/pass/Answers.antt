@@ -6,7 +6,7 @@ use Rattle.sealed_pages.specs.Readers.{reading}
 use Rattle.segments.specs.FixedCursor.{after_items}
 use Rattle.segments.specs.FixedReplay.{Place}
 use Rattle.segments.specs.FixedWalking.{walk_of, place_of}
-use Rattle.segments.proofs.FixedAdvancing.{pass_fits, pass_goes, pass_walk, pass_walks}
+use Rattle.segments.proofs.replay.Advancing.{pass_fits, pass_goes, pass_walk, pass_walks}
 use Rattle.segments.proofs.fixed.replaying.Replay.pass.Goals as goal
 
 pub overflow_add-reading : goal.overflow_add-reading

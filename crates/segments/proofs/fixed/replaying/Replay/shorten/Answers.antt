@@ -5,10 +5,10 @@ use Rattle.std.proofs.lemmas.Result.{err_from_is_err_and}
 use Rattle.std.specs.Result.{IsErrOf}
 use Rattle.section_manager.specs.declared.journal.Error.{Error}
 use Rattle.segments.specs.FixedWalking.{walk_of}
-use Rattle.segments.proofs.FixedChecking.{count_as}
-use Rattle.segments.proofs.FixedErrorSteps.{cut_as}
-use Rattle.segments.proofs.FixedPassing.{no_error}
-use Rattle.segments.proofs.FixedShortening.{cut_moments, cut_to, walk_lost, walk_shortened, within_here, within_prefix}
+use Rattle.segments.proofs.checkpoint.Checking.{count_as}
+use Rattle.segments.proofs.replay.ErrorSteps.{cut_as}
+use Rattle.segments.proofs.held.Passing.{no_error}
+use Rattle.segments.proofs.replay.Shortening.{cut_moments, cut_to, walk_lost, walk_shortened, within_here, within_prefix}
 use Rattle.segments.proofs.fixed.replaying.Replay.shorten.Goals as goal
 use Rattle.blob_device.proofs.general.Options.{some_of}
 

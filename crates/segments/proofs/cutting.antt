@@ -1,0 +1,5 @@
+pub mod CutLemmas
+pub mod CuttingEnds
+pub mod RemoveLemmas
+pub mod RemovingEnds
+pub mod TailLemmas
