@@ -12,7 +12,7 @@ use Rattle.archive_program.specs.Program.{AnswersInput, AnswersScript, NamesBadL
 use Rattle.archive_program.specs.Answered.{AnswerOf, bad_line, no_memory, served, status_of}
 use Rattle.archive_program.specs.Words.{Job}
 
--- The text is all of what is to be written, but for a status 6: then it is a front of that, or nothing is known of it.
+-- The text is all of what is to be written, but for a status 6: then it is a prefix of that, or nothing is known of it.
 pub data Found (job : Job) (max : ℕ) (Served : List Spelled → List (Reply (List ℕ)) → End → Type 0) (Unserved : Type 0) (error : Option Error) (input text : List ℕ) (status : ℕ) : Type 0 where
   none : status ≡ 6 → Unserved → text ≡ [] → Found job max Served Unserved error input text status
   bad : status ≡ 2 → Unserved → NamesBadLine job max input text → Found job max Served Unserved error input text status

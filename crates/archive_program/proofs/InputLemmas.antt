@@ -5,12 +5,12 @@ use Rattle.archives.specs.Changes.{outcome}
 use Rattle.archive_program.specs.declared.input.InputError.{InputError}
 use Rattle.archive_program.specs.declared.input.InputError.TheVariants.{Fault, TooLong, Mem}
 use Rattle.archive_program.specs.Input.{IsInputCause, ReadsInput, TakesAll, TakesPiece}
-use Rattle.archive_program.specs.Taking.{TakesFront}
+use Rattle.archive_program.specs.Taking.{TakesPrefix}
 
 module _ (start old new so_far bytes : List ℕ) (kept : start ≡ so_far ++ old) where
-  -- the bytes so far, with the piece, are the front of the input
+  -- the bytes so far, with the piece, are the prefix of the input
   pub taken_more : (result : Result Bool InputError) (more : Bool) → result ≡ Ok more → TakesPiece result old new so_far bytes → start ≡ bytes ++ new
-  taken_more (Ok b) more is took = kept ∙ ap (λ back. so_far ++ back) took.rest ∙ sym (append_assoc so_far took.piece new) ∙ ap (λ front. front ++ new) (sym took.added)
+  taken_more (Ok b) more is took = kept ∙ ap (λ back. so_far ++ back) took.rest ∙ sym (append_assoc so_far took.piece new) ∙ ap (λ prefix. prefix ++ new) (sym took.added)
   taken_more (Err e) more is took = cc
 
   -- at the end nothing is left
@@ -25,7 +25,7 @@ module _ (start old new so_far bytes : List ℕ) (kept : start ≡ so_far ++ old
   taken_all (Err e) is limit took = cc
 
   -- whatever came, no more than the limit and one byte was taken
-  pub taken_at_most : (result : Result Bool InputError) → TakesPiece result old new so_far bytes → TakesFront start new (λ n. n ≤ 2 ^ 24 + 1)
+  pub taken_at_most : (result : Result Bool InputError) → TakesPiece result old new so_far bytes → TakesPrefix start new (λ n. n ≤ 2 ^ 24 + 1)
   taken_at_most result took = record {
     taken = so_far ++ took.piece;
     number = omega (arith, length-append so_far took.piece, took.within);
@@ -33,7 +33,7 @@ module _ (start old new so_far bytes : List ℕ) (kept : start ≡ so_far ++ old
   }
 
   -- a source that failed gave nothing more
-  pub taken_before : (e : InputError) → e ≡ Fault → length so_far ≤ 2 ^ 24 → TakesPiece (Err e) old new so_far bytes → TakesFront start new (λ n. n ≤ 2 ^ 24)
+  pub taken_before : (e : InputError) → e ≡ Fault → length so_far ≤ 2 ^ 24 → TakesPiece (Err e) old new so_far bytes → TakesPrefix start new (λ n. n ≤ 2 ^ 24)
   taken_before e is limit took =
       let err : InputError → Result Bool InputError = λ x. Err x in
       record {

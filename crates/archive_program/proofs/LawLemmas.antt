@@ -13,7 +13,7 @@ use Rattle.sealed_pages.proofs.Reaching.{prefix_size}
 use Rattle.paired.specs.Kept.{is_sound_in, marker_of, stored_records}
 use Rattle.paired.specs.Opening.{as_read}
 use Rattle.paired.specs.Places.{Follow}
-use Rattle.paired.specs.Records.{Entry, entry_of, front, records}
+use Rattle.paired.specs.Records.{Entry, entry_of, unbroken_prefix, records}
 use Rattle.archives.specs.Filing.{kept_entries}
 use Rattle.archives.specs.IndexRecord.{index_of}
 use Rattle.archives.specs.Lawful.{Lawful}
@@ -46,7 +46,7 @@ module _ (settings : Settings) (items : ℕ) where
 
   no_entries : (s : ℕ) → kept_entries (program_filing settings items) (as_read (λ q. nothing)) empty_map s ≡ []
   no_entries s = ap (λ (rs : List (List ℕ)). map (entry_of (program_filing settings items).layout.place [])
-      (front (is_sound_in (program_filing settings items).layout (as_read (λ q. nothing)) s) (marker_of [] s) 0 rs)) (no_records s)
+      (unbroken_prefix (is_sound_in (program_filing settings items).layout (as_read (λ q. nothing)) s) (marker_of [] s) 0 rs)) (no_records s)
 
   no_sections : (most : ℕ) (ss : List ℕ) → AllByRecursion (λ s. (s < 2 ^ 64) × (kept_entries (program_filing settings items) (as_read (λ q. nothing)) empty_map s ≡ [] → ⊥)) ss → length ss ≤ most
   no_sections most [] all = omega arith

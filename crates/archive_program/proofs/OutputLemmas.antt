@@ -16,7 +16,7 @@ module _ {W : Type 0} (out : sink.Ghosts W) (first mid last : W) (text rest : Li
     told = λ t. let so = told t in record {
       written = so.0;
       rest = rest;
-      front = so.1;
+      prefix = so.1;
       taken = ap out.taken (sym same) ∙ so.2;
       whole = none;
     };
@@ -31,7 +31,7 @@ module _ {W : Type 0} (out : sink.Ghosts W) (first mid last : W) (text rest : Li
     told = λ t. let so = told t in record {
       written = so.0;
       rest = rest;
-      front = so.1;
+      prefix = so.1;
       taken = same t ∙ so.2;
       whole = tt;
     };

@@ -21,8 +21,8 @@ use Rattle.archive_service.specs.declared.replies.End.TheVariants.{Done}
 use Rattle.archive_service.specs.declared.settings.Settings.{Settings}
 use Rattle.archive_service.proofs.ScriptLemmas.{good_or_bad, one_script}
 use Rattle.archive_program.specs.Answering.{AnswersTo, IsUnread}
-use Rattle.archive_program.specs.Taking.{TakesFront}
-use Rattle.archive_program.specs.Output.{WritesFront}
+use Rattle.archive_program.specs.Taking.{TakesPrefix}
+use Rattle.archive_program.specs.Output.{WritesPrefix}
 use Rattle.archive_program.specs.Program.{AnswersInput, AnswersScript, Gives, InFull, InPart, IsBadAt, IsGiven, IsRefusal, IsUnserved, MayBeServed, NamesBadLine, Orders, Reads, ReadsFor, Runs, RunsJob, ServedBy, error_of, items_of, program_filing}
 use Rattle.archive_program.specs.Answered.{AnswersWhole}
 use Rattle.archive_program.specs.Words.{AreOfNoForm, AsksFor, Job, Make, Script}
@@ -30,15 +30,15 @@ use Rattle.archive_program.proofs.CauseLemmas.{refusal_only}
 use Rattle.archive_program.proofs.FoundLemmas.{Found, bad, failed, found_of, none, short, whole}
 use Rattle.archive_program.proofs.WordsLemmas.{one_job}
 
-pub in_part : {T : Type 0} (result : Result T IoFault) (old new text : List ℕ) → WritesFront result old new text → InPart text old new
-in_part result old new text wrote = record { front = wrote.written; rest = wrote.rest; text_is = wrote.front; taken = wrote.taken }
+pub in_part : {T : Type 0} (result : Result T IoFault) (old new text : List ℕ) → WritesPrefix result old new text → InPart text old new
+in_part result old new text wrote = record { prefix = wrote.written; rest = wrote.rest; text_is = wrote.prefix; taken = wrote.taken }
 
-pub in_full : {T : Type 0} (v : T) (old new text : List ℕ) → WritesFront {T = T} (Ok v) old new text → InFull text old new
+pub in_full : {T : Type 0} (v : T) (old new text : List ℕ) → WritesPrefix {T = T} (Ok v) old new text → InFull text old new
 in_full v old new text wrote =
-    wrote.taken ∙ ap (λ (front : List ℕ). old ++ front) (sym (wrote.front ∙ ap (λ (rest : List ℕ). wrote.written ++ rest) wrote.whole ∙ append-nil wrote.written))
+    wrote.taken ∙ ap (λ (prefix : List ℕ). old ++ prefix) (sym (wrote.prefix ∙ ap (λ (rest : List ℕ). wrote.written ++ rest) wrote.whole ∙ append-nil wrote.written))
 
 -- an input that is no longer than it may be has no more bytes to take
-pub not_too_long : (left_old left_new : List ℕ) → length left_old ≤ 2 ^ 24 → TakesFront left_old left_new (λ n. n ≡ 2 ^ 24 + 1) → ⊥
+pub not_too_long : (left_old left_new : List ℕ) → length left_old ≤ 2 ^ 24 → TakesPrefix left_old left_new (λ n. n ≡ 2 ^ 24 + 1) → ⊥
 not_too_long left_old left_new fits took = omega (arith, took.number, ap length took.rest, length-append took.taken left_new)
 
 -- a number that is none of those in the list
@@ -47,12 +47,12 @@ not_listed [] n unlike (k, lt, is) = omega (arith, lt)
 not_listed (x ∷ xs) n unlike (zero, lt, is) = unlike.0 is
 not_listed (x ∷ xs) n unlike (suc k, lt, is) = not_listed xs n unlike.1 (k, omega (arith, lt), is)
 
--- more of the text is a front of it too
-longer_front : (wanted text rest old new : List ℕ) → wanted ≡ text ++ rest → InPart text old new → InPart wanted old new
-longer_front wanted text rest old new is part = record {
-  front = part.front;
+-- more of the text is a prefix of it too
+longer_prefix : (wanted text rest old new : List ℕ) → wanted ≡ text ++ rest → InPart text old new → InPart wanted old new
+longer_prefix wanted text rest old new is part = record {
+  prefix = part.prefix;
   rest = part.rest ++ rest;
-  text_is = is ∙ ap (λ (t : List ℕ). t ++ rest) part.text_is ∙ append_assoc part.front part.rest rest;
+  text_is = is ∙ ap (λ (t : List ℕ). t ++ rest) part.text_is ∙ append_assoc part.prefix part.rest rest;
   taken = part.taken;
 }
 
@@ -97,7 +97,7 @@ module _ {D S W : Type 0} (settings : Settings) (words : List (List ℕ)) (ended
   By job = ServedBy settings job dev old new ended.marks
 
   abbrev pub TakesUpTo : (ℕ → Type 0) → Type 0
-  TakesUpTo P = TakesFront (input.left input_old) (input.left input_new) P
+  TakesUpTo P = TakesPrefix (input.left input_old) (input.left input_new) P
 
   -- ---- where no script was served
 
@@ -262,43 +262,43 @@ module _ {D S W : Type 0} (settings : Settings) (words : List (List ℕ)) (ended
       done (bad s u names) is = absurd (omega (arith, same, s, is))
       done (whole s e script) is = (e, gives (UpTo (λ end. end ≡ Done)) InFull text script written)
       done (failed s some script) is = absurd (omega (arith, same, s, is))
-      done (short s wanted rest answers front) is = absurd (omega (arith, same, s, is))
+      done (short s wanted rest answers prefix) is = absurd (omega (arith, same, s, is))
 
       bad_script : FoundNow → ended.status ≡ 2 → GivesFor job (NamesBadLine job settings.max_value) InFull
       bad_script (none s u e) is = absurd (omega (arith, same, s, is))
       bad_script (bad s u names) is = gives (NamesBadLine job settings.max_value) InFull text names written
       bad_script (whole s e script) is = absurd (omega (arith, same, s, is))
       bad_script (failed s some script) is = absurd (omega (arith, same, s, is))
-      bad_script (short s wanted rest answers front) is = absurd (omega (arith, same, s, is))
+      bad_script (short s wanted rest answers prefix) is = absurd (omega (arith, same, s, is))
 
       store_error : FoundNow → ended.status ≡ 5 → IsSome ended.error × GivesFor job (UpTo (λ end. ended.error ≡ error_of end)) InFull
       store_error (none s u e) is = absurd (omega (arith, same, s, is))
       store_error (bad s u names) is = absurd (omega (arith, same, s, is))
       store_error (whole s e script) is = absurd (omega (arith, same, s, is))
       store_error (failed s some script) is = (some, gives (UpTo (λ end. ended.error ≡ error_of end)) InFull text script written)
-      store_error (short s wanted rest answers front) is = absurd (omega (arith, same, s, is))
+      store_error (short s wanted rest answers prefix) is = absurd (omega (arith, same, s, is))
 
       has_error : FoundNow → IsSome ended.error → Contains (4 ∷ 5 ∷ 6 ∷ []) ended.status
       has_error (none s u e) some = (2, lit< tt, sym (same ∙ s))
       has_error (bad s u names) some = absurd (cc (subst IsSome u.error some))
       has_error (whole s e script) some = absurd (cc (subst IsSome e some))
       has_error (failed s e script) some = (1, lit< tt, sym (same ∙ s))
-      has_error (short s wanted rest answers front) some = (2, lit< tt, sym (same ∙ s))
+      has_error (short s wanted rest answers prefix) some = (2, lit< tt, sym (same ∙ s))
 
       no_memory : FoundNow → ended.status ≡ 6 → (Unserved × (out_new ≡ out_old)) ⊎ GivesFor job Any InPart
       no_memory (none s u e) is = inl (u, unwritten (same_text ∙ e))
       no_memory (bad s u names) is = absurd (omega (arith, same, s, is))
       no_memory (whole s e script) is = absurd (omega (arith, same, s, is))
       no_memory (failed s some script) is = absurd (omega (arith, same, s, is))
-      no_memory (short s wanted rest answers front) is =
-          inr (gives Any InPart wanted answers (λ w. record { front = text; rest = rest; text_is = front; taken = written w }))
+      no_memory (short s wanted rest answers prefix) is =
+          inr (gives Any InPart wanted answers (λ w. record { prefix = text; rest = rest; text_is = prefix; taken = written w }))
 
       unserved : FoundNow → Contains (1 ∷ 2 ∷ 3 ∷ 7 ∷ []) ended.status → Unserved
       unserved (none s u e) among = u
       unserved (bad s u names) among = u
       unserved (whole s e script) among = absurd (not_listed (1 ∷ 2 ∷ 3 ∷ 7 ∷ []) ended.status (λ x. omega (arith, same, s, x), (λ x. omega (arith, same, s, x), (λ x. omega (arith, same, s, x), (λ x. omega (arith, same, s, x), tt)))) among)
       unserved (failed s some script) among = absurd (not_listed (1 ∷ 2 ∷ 3 ∷ 7 ∷ []) ended.status (λ x. omega (arith, same, s, x), (λ x. omega (arith, same, s, x), (λ x. omega (arith, same, s, x), (λ x. omega (arith, same, s, x), tt)))) among)
-      unserved (short s wanted rest answers front) among = absurd (not_listed (1 ∷ 2 ∷ 3 ∷ 7 ∷ []) ended.status (λ x. omega (arith, same, s, x), (λ x. omega (arith, same, s, x), (λ x. omega (arith, same, s, x), (λ x. omega (arith, same, s, x), tt)))) among)
+      unserved (short s wanted rest answers prefix) among = absurd (not_listed (1 ∷ 2 ∷ 3 ∷ 7 ∷ []) ended.status (λ x. omega (arith, same, s, x), (λ x. omega (arith, same, s, x), (λ x. omega (arith, same, s, x), (λ x. omega (arith, same, s, x), tt)))) among)
 
       never_1 : ended.status ≡ 1 → ⊥
       never_1 = never 1 (λ e. omega (arith, e)) (λ e. omega (arith, e)) (λ e. omega (arith, e)) (λ e. omega (arith, e))
@@ -334,7 +334,7 @@ module _ {D S W : Type 0} (settings : Settings) (words : List (List ℕ)) (ended
                   script.commands ended.marks script.replies
                   calm script.end ended.error (script.served.serves t may.nothing_pending (may.markers, may.lawful)) script.ended some,
             )
-        complete (short s wanted rest answers front) = inl (1, lit< tt, sym (same ∙ s))
+        complete (short s wanted rest answers prefix) = inl (1, lit< tt, sym (same ∙ s))
 
       written_job : RanJob job
       written_job = record {
@@ -375,7 +375,7 @@ module _ {D S W : Type 0} (settings : Settings) (words : List (List ℕ)) (ended
       gives_part (bad s u names) = gives Any InPart text (inr (names, u)) went_out
       gives_part (whole s e script) = gives Any InPart text (inl (by_error e script)) went_out
       gives_part (failed s some script) = gives Any InPart text (inl script) went_out
-      gives_part (short s wanted rest answers front) = gives Any InPart wanted answers (λ w. longer_front wanted text rest (out.taken out_old) (out.taken out_new) front (went_out w))
+      gives_part (short s wanted rest answers prefix) = gives Any InPart wanted answers (λ w. longer_prefix wanted text rest (out.taken out_old) (out.taken out_new) prefix (went_out w))
 
       cut_job : (s : ℕ) → ended.status ≡ s → AllByRecursion (λ x. x ≢ s) (0 ∷ 1 ∷ 2 ∷ 3 ∷ 5 ∷ 7 ∷ [])
           → (s ≡ 4 → Rose (out.faults out_old) (out.faults out_new)) → ((Rose (out.faults out_old) (out.faults out_new) → ⊥) → s ≡ 6) → RanJob job

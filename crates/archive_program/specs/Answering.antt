@@ -7,7 +7,7 @@ use Rattle.archive_service.specs.declared.ended.Ended.{Ended}
 use Rattle.archive_service.specs.declared.ended.Status.{Status}
 use Rattle.archive_service.specs.declared.ended.Status.TheVariants.{NoMemory, ReadFault, TooLong}
 use Rattle.archive_service.specs.declared.settings.Settings.{Settings}
-use Rattle.archive_program.specs.Taking.{TakesFront}
+use Rattle.archive_program.specs.Taking.{TakesPrefix}
 use Rattle.archive_program.specs.Program.{Reads, ReadsFor}
 use Rattle.archive_program.specs.Answered.{AnswersWhole}
 use Rattle.archive_program.specs.Words.{Job, Make, Script}
@@ -32,16 +32,16 @@ module _ {D S : Type 0} (settings : Settings) (job : Job) (dev : device.Ghosts D
   -- why there is no answer
   abbrev pub IsUnread : Status → Type 0
   IsUnread ReadFault = Rose (input.faults input_old) (input.faults input_new)
-      × (input.Tells → TakesFront (input.left input_old) (input.left input_new) (λ n. n ≤ 2 ^ 24))
+      × (input.Tells → TakesPrefix (input.left input_old) (input.left input_new) (λ n. n ≤ 2 ^ 24))
   IsUnread TooLong = input.Tells
-      → TakesFront (input.left input_old) (input.left input_new) (λ n. n ≡ 2 ^ 24 + 1)
+      → TakesPrefix (input.left input_old) (input.left input_new) (λ n. n ≡ 2 ^ 24 + 1)
   IsUnread NoMemory = ⊤
   IsUnread status = ⊥
 
   -- no more is taken than one byte more than an input may have
   abbrev pub TakesAtMost : Type 0
   TakesAtMost = input.Tells
-      → TakesFront (input.left input_old) (input.left input_new) (λ n. n ≤ 2 ^ 24 + 1)
+      → TakesPrefix (input.left input_old) (input.left input_new) (λ n. n ≤ 2 ^ 24 + 1)
 
   -- The job was answered; or it reads an input, which was not read whole, and nothing was done.
   abbrev pub AnswersTo : Result (Ended × List ℕ) Status → Type 0

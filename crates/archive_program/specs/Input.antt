@@ -4,7 +4,7 @@ use Rattle.blob_device.specs.Counts.{Rose}
 use Rattle.blob_device.specs.declared.source.Source as source
 use Rattle.archive_program.specs.declared.input.InputError.{InputError}
 use Rattle.archive_program.specs.declared.input.InputError.TheVariants.{Fault, TooLong, Mem}
-use Rattle.archive_program.specs.Taking.{TakesFront}
+use Rattle.archive_program.specs.Taking.{TakesPrefix}
 
 -- a fault is answered only where the source's count of faults rose
 abbrev pub IsInputCause : ℕ → ℕ → InputError → Type 0
@@ -64,9 +64,9 @@ module _ {S : Type 0} (input : source.Ghosts S) (old new : S) where
     -- a fault is the source's
     pub cause : IsInputCause (input.faults old) (input.faults new) e
     -- before it no more was taken than an input may have
-    pub within : input.Tells → e ≡ Fault → TakesFront (input.left old) (input.left new) (λ n. n ≤ 2 ^ 24)
+    pub within : input.Tells → e ≡ Fault → TakesPrefix (input.left old) (input.left new) (λ n. n ≤ 2 ^ 24)
     -- of an input that is too long one byte more was taken
-    pub too_long : input.Tells → e ≡ TooLong → TakesFront (input.left old) (input.left new) (λ n. n ≡ 2 ^ 24 + 1)
+    pub too_long : input.Tells → e ≡ TooLong → TakesPrefix (input.left old) (input.left new) (λ n. n ≡ 2 ^ 24 + 1)
 
   abbrev pub ReadEnds : Result (List ℕ) InputError → Type 0
   ReadEnds (Ok bytes) = IsRead bytes
@@ -75,6 +75,6 @@ module _ {S : Type 0} (input : source.Ghosts S) (old new : S) where
   -- An input was read, or not.
   pub record ReadsInput (result : Result (List ℕ) InputError) : Type 0 where
     -- at most one byte more was taken than an input may have
-    pub at_most : input.Tells → TakesFront (input.left old) (input.left new) (λ n. n ≤ 2 ^ 24 + 1)
+    pub at_most : input.Tells → TakesPrefix (input.left old) (input.left new) (λ n. n ≤ 2 ^ 24 + 1)
     -- how it ended
     pub ends : ReadEnds result

@@ -6,14 +6,14 @@ use Rattle.blob_device.specs.declared.io_fault.IoFault.{IoFault}
 use Rattle.blob_device.specs.declared.io_fault.IoFault.TheVariants.{Fault}
 use Rattle.blob_device.specs.declared.sink.Sink as sink
 
--- a front of the text was written, and behind an Ok all of it
-pub record WritesFront {T : Type 0} (result : Result T IoFault) (old new text : List ℕ) : Type 0 where
+-- a prefix of the text was written, and behind an Ok all of it
+pub record WritesPrefix {T : Type 0} (result : Result T IoFault) (old new text : List ℕ) : Type 0 where
   -- this was written
   pub written : List ℕ
   -- this was not
   pub rest : List ℕ
   -- they are the text
-  pub front : text ≡ written ++ rest
+  pub prefix : text ≡ written ++ rest
   -- so much did the sink take
   pub taken : new ≡ old ++ written
   -- behind an Ok there is no rest
@@ -27,4 +27,4 @@ pub record WritesOutput {W : Type 0} (out : sink.Ghosts W) (result : Result Unit
   -- for an empty text nothing is done
   pub nothing : text ≡ [] → IsOk result × (new ≡ old)
   -- so much of the text was written
-  pub told : out.Tells → WritesFront result (out.taken old) (out.taken new) text
+  pub told : out.Tells → WritesPrefix result (out.taken old) (out.taken new) text

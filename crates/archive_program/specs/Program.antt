@@ -30,7 +30,7 @@ use Rattle.archive_service.specs.Texts.{Spelled, bad_line_text}
 use Rattle.archive_service.specs.declared.ended.Ended.{Ended}
 use Rattle.archive_service.specs.declared.replies.End.{End}
 use Rattle.archive_service.specs.declared.replies.End.TheVariants.{Done, Failed}
-use Rattle.archive_program.specs.Taking.{TakesFront}
+use Rattle.archive_program.specs.Taking.{TakesPrefix}
 use Rattle.archive_program.specs.Words.{AreOfNoForm, AsksFor, Job, Make, Script}
 use Rattle.archive_service.specs.declared.settings.Settings.{Settings}
 
@@ -200,16 +200,16 @@ pub record Writes (Input : List ℕ → Type 0) (SinkTells : Type 0) (P : List �
 abbrev pub InFull : List ℕ → List ℕ → List ℕ → Type 0
 InFull text old new = new ≡ old ++ text
 
--- a front of the text was written
+-- a prefix of the text was written
 pub record InPart (text old new : List ℕ) : Type 0 where
-  -- this is the front
-  pub front : List ℕ
+  -- this is the prefix
+  pub prefix : List ℕ
   -- this is the rest
   pub rest : List ℕ
   -- they are the text
-  pub text_is : text ≡ front ++ rest
+  pub text_is : text ≡ prefix ++ rest
   -- so much did the sink take
-  pub taken : new ≡ old ++ front
+  pub taken : new ≡ old ++ prefix
 
 -- ---- what a call of the program comes to
 
@@ -249,18 +249,18 @@ module _ {D S W : Type 0} (settings : Settings) (words : List (List ℕ)) (ended
     -- 3: the source failed, and had not given more than an input may have.
     pub read_fault : ended.status ≡ 3
         → Reads job × (Rose (input.faults input_old) (input.faults input_new)
-        × (input.Tells → TakesFront (input.left input_old) (input.left input_new) (λ n. n ≤ 2 ^ 24)))
+        × (input.Tells → TakesPrefix (input.left input_old) (input.left input_new) (λ n. n ≤ 2 ^ 24)))
     -- 7: the input has more bytes than an input may have.
     pub too_long : ended.status ≡ 7 → Reads job
-        × (input.Tells → TakesFront (input.left input_old) (input.left input_new) (λ n. n ≡ 2 ^ 24 + 1))
-    -- 4: the sink failed, and a front of the text went out.
+        × (input.Tells → TakesPrefix (input.left input_old) (input.left input_new) (λ n. n ≡ 2 ^ 24 + 1))
+    -- 4: the sink failed, and a prefix of the text went out.
     pub write_fault : ended.status ≡ 4 → Rose (out.faults out_old) (out.faults out_new)
         × Gives job (AnswersInput job settings.max_value (Served job) ended.error IsUnserved) InPart
     -- 5: the commands ended in an error. All of the text was written.
     pub store_error : ended.status ≡ 5
         → IsSome ended.error
         × Gives job (AnswersScript settings.max_value (Served job) job (λ end. ended.error ≡ error_of end)) InFull
-    -- 6: there was no memory, and a front of the text went out, or nothing.
+    -- 6: there was no memory, and a prefix of the text went out, or nothing.
     pub no_memory : ended.status ≡ 6
         → (IsUnserved × (out_new ≡ out_old))
         ⊎ Gives job (AnswersInput job settings.max_value (Served job) ended.error IsUnserved) InPart
@@ -287,7 +287,7 @@ module _ {D S W : Type 0} (settings : Settings) (words : List (List ℕ)) (ended
     pub has_error : IsSome ended.error → Contains (4 ∷ 5 ∷ 6 ∷ []) ended.status
     -- Of no input more bytes are taken than one more than an input may have.
     pub at_most : input.Tells
-        → TakesFront (input.left input_old) (input.left input_new) (λ n. n ≤ 2 ^ 24 + 1)
+        → TakesPrefix (input.left input_old) (input.left input_new) (λ n. n ≤ 2 ^ 24 + 1)
     -- Where no script was served the device is as it was.
     pub unserved : Contains (1 ∷ 2 ∷ 3 ∷ 7 ∷ []) ended.status → IsUnserved
     -- With words of another form nothing was read either.

@@ -2,7 +2,7 @@
 use Rattle.std.specs.Prelude.{◌≡◌, ℕ, List, ◌++◌, length}
 
 -- so many bytes of what was left were taken
-pub record TakesFront (old new : List ℕ) (P : ℕ → Type 0) : Type 0 where
+pub record TakesPrefix (old new : List ℕ) (P : ℕ → Type 0) : Type 0 where
   -- these were taken
   pub taken : List ℕ
   -- in so great a number

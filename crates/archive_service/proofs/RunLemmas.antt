@@ -77,29 +77,29 @@ going_takes items st command s going = absurd going
 -- ---- what is submitted begins with what was there
 
 module _ (items n : ℕ) (st : State (List ℕ)) (s : ℕ) (few : n ≤ length (st.lists s)) where
-  appended_front : (i : ℕ) (k v : List ℕ) → take n ((appended items i k v st).lists s) ≡ take n (st.lists s)
-  appended_front i k v =
+  appended_prefix : (i : ℕ) (k v : List ℕ) → take n ((appended items i k v st).lists s) ≡ take n (st.lists s)
+  appended_prefix i k v =
       elim (s == section_of items i) as (λ b. take n (if b then st.lists s ++ record { index = i; key = k; value = v } ∷ [] else st.lists s) ≡ take n (st.lists s)) [
         | true ↦ take-append-le n (st.lists s) (record { index = i; key = k; value = v } ∷ []) few
         | false ↦ refl
       ]
 
-  put_front : (skip : Bool) (i : ℕ) (k v : List ℕ) → take n ((if skip then st else appended items i k v st).lists s) ≡ take n (st.lists s)
-  put_front true i k v = refl
-  put_front false i k v = appended_front i k v
+  put_prefix : (skip : Bool) (i : ℕ) (k v : List ℕ) → take n ((if skip then st else appended items i k v st).lists s) ≡ take n (st.lists s)
+  put_prefix true i k v = refl
+  put_prefix false i k v = appended_prefix i k v
 
-  open_front : (u : Option Asked) → take n ((with_put items u st).lists s) ≡ take n (st.lists s)
-  open_front (Some (Put i k v)) = put_front (nat_lt i st.floor || has_index items st i) i k v
-  open_front (Some (PutSync i k v)) = put_front (nat_lt i st.floor || has_index items st i) i k v
-  open_front (Some (PutStart i k v)) = put_front (nat_lt i st.floor || has_index items st i) i k v
-  open_front (Some (Multi i k v)) = put_front (nat_lt i st.floor) i k v
-  open_front (Some (MultiSync i k v)) = put_front (nat_lt i st.floor) i k v
-  open_front (Some (MultiStart i k v)) = put_front (nat_lt i st.floor) i k v
-  open_front u = refl
+  open_prefix : (u : Option Asked) → take n ((with_put items u st).lists s) ≡ take n (st.lists s)
+  open_prefix (Some (Put i k v)) = put_prefix (nat_lt i st.floor || has_index items st i) i k v
+  open_prefix (Some (PutSync i k v)) = put_prefix (nat_lt i st.floor || has_index items st i) i k v
+  open_prefix (Some (PutStart i k v)) = put_prefix (nat_lt i st.floor || has_index items st i) i k v
+  open_prefix (Some (Multi i k v)) = put_prefix (nat_lt i st.floor) i k v
+  open_prefix (Some (MultiSync i k v)) = put_prefix (nat_lt i st.floor) i k v
+  open_prefix (Some (MultiStart i k v)) = put_prefix (nat_lt i st.floor) i k v
+  open_prefix u = refl
 
-  submitted_front : (u : Option Asked) → take n (submitted items st u s) ≡ take n (st.lists s)
-  submitted_front u = elim (st.is_open) as (λ b. take n (if b then (with_put items u st).lists s else st.lists s) ≡ take n (st.lists s)) [
-    | true ↦ open_front u
+  submitted_prefix : (u : Option Asked) → take n (submitted items st u s) ≡ take n (st.lists s)
+  submitted_prefix u = elim (st.is_open) as (λ b. take n (if b then (with_put items u st).lists s else st.lists s) ≡ take n (st.lists s)) [
+    | true ↦ open_prefix u
     | false ↦ refl
   ]
 
@@ -237,7 +237,7 @@ module _ (f : Filing) (write_buffer value_buffer : ℕ) (old new : Timeline) (co
               let at_least : length was ≤ length list = omega (arith, there.synced, held.synced) in
               let cut : take (length was) list ≡ take (length was) (submitted f.items (states n) u s) =
               ap (take (length was)) held.same ∙ take-take (length was) (length list) (submitted f.items (states n) u s) at_least in
-              (stands.markers, stands.lawful.pair.held, cut ∙ submitted_front f.items (length was) (states n) s (omega (arith, there.synced, order)) u ∙ there.still)
+              (stands.markers, stands.lawful.pair.held, cut ∙ submitted_prefix f.items (length was) (states n) s (omega (arith, there.synced, order)) u ∙ there.still)
           | inr gone ↦ absurd (stays gone.1)
         ]
 

@@ -37,28 +37,28 @@ fails (Err e) old mid new first text failed is more = (first ++ more.0, more.1 �
 
 module _ {A : Type 0} (text_of : A → List ℕ) where
   -- one word more
-  pub word_more : (front out new : List ℕ) (things : List A) (thing : A) → out ≡ front ++ words_text text_of things → new ≡ out ++ 32 ∷ text_of thing
-      → new ≡ front ++ words_text text_of (things ++ thing ∷ [])
-  word_more front out new things thing so_far more =
-      more ∙ ap (λ l. l ++ 32 ∷ text_of thing) so_far ∙ flat_map_more (λ x. 32 ∷ text_of x) front things thing
+  pub word_more : (prefix out new : List ℕ) (things : List A) (thing : A) → out ≡ prefix ++ words_text text_of things → new ≡ out ++ 32 ∷ text_of thing
+      → new ≡ prefix ++ words_text text_of (things ++ thing ∷ [])
+  word_more prefix out new things thing so_far more =
+      more ∙ ap (λ l. l ++ 32 ∷ text_of thing) so_far ∙ flat_map_more (λ x. 32 ∷ text_of x) prefix things thing
 
   -- all words, behind a name
-  pub words_behind : (old name front out : List ℕ) (things : List A) → front ≡ old ++ name → out ≡ front ++ words_text text_of things → out ≡ old ++ (name ++ words_text text_of things)
-  words_behind old name front out things begun so_far = so_far ∙ ap (λ l. l ++ words_text text_of things) begun ∙ append_assoc old name (words_text text_of things)
+  pub words_behind : (old name prefix out : List ℕ) (things : List A) → prefix ≡ old ++ name → out ≡ prefix ++ words_text text_of things → out ≡ old ++ (name ++ words_text text_of things)
+  words_behind old name prefix out things begun so_far = so_far ∙ ap (λ l. l ++ words_text text_of things) begun ∙ append_assoc old name (words_text text_of things)
 
   -- no memory for one word more of a list
-  pub list_fails : {E : Type 0} (r : Result Unit E) (old name : List ℕ) {front out : List ℕ} (new text : List ℕ) (before : List A) → front ≡ old ++ name
-      → out ≡ front ++ words_text text_of before → IsErr r → ((more : List ℕ) × (new ≡ out ++ more)) → Appends r old text new
-  list_fails r old name {front} {out} new text before begun so_far failed more =
-      fails r old out new (name ++ words_text text_of before) text failed (words_behind old name front out before begun so_far) more
+  pub list_fails : {E : Type 0} (r : Result Unit E) (old name : List ℕ) {prefix out : List ℕ} (new text : List ℕ) (before : List A) → prefix ≡ old ++ name
+      → out ≡ prefix ++ words_text text_of before → IsErr r → ((more : List ℕ) × (new ≡ out ++ more)) → Appends r old text new
+  list_fails r old name {prefix} {out} new text before begun so_far failed more =
+      fails r old out new (name ++ words_text text_of before) text failed (words_behind old name prefix out before begun so_far) more
 
   -- the end of the line, behind all words of a list
-  pub list_ends : {E : Type 0} (r : Result Unit E) (old name line_end : List ℕ) {front out : List ℕ} (new : List ℕ) (before things : List A) → front ≡ old ++ name
-      → out ≡ front ++ words_text text_of before → before ≡ things → new ≡ (if is_ok r then out ++ line_end else out)
+  pub list_ends : {E : Type 0} (r : Result Unit E) (old name line_end : List ℕ) {prefix out : List ℕ} (new : List ℕ) (before things : List A) → prefix ≡ old ++ name
+      → out ≡ prefix ++ words_text text_of before → before ≡ things → new ≡ (if is_ok r then out ++ line_end else out)
       → Appends r old (name ++ words_text text_of things ++ line_end) new
-  list_ends r old name line_end {front} {out} new before things begun so_far all last =
+  list_ends r old name line_end {prefix} {out} new before things begun so_far all last =
       appends_more r old out new (name ++ words_text text_of things) line_end
-      (words_behind old name front out before begun so_far ∙ ap (λ l. old ++ (name ++ words_text text_of l)) all)
+      (words_behind old name prefix out before begun so_far ∙ ap (λ l. old ++ (name ++ words_text text_of l)) all)
       (appends r out new line_end last)
 
 -- a run is written by its two numbers

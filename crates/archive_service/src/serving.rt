@@ -17,7 +17,7 @@ use value_codec::{Codec, Hash32, Key, Seal};
 /// Which archive serves, and where it is kept.
 #[derive(Drop)]
 pub enum StoreConfig<T, C> {
-    /// An archive whose front can be pruned.
+    /// An archive whose first sections can be pruned.
     Prunable(prunable::Config<T, C>),
 }
 

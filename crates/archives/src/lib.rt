@@ -1,4 +1,4 @@
-//! Stores of values by index and key: the archive whose front can be pruned; what an archive is asked, what it replies, and the machine of
+//! Stores of values by index and key: the archive whose first sections can be pruned; what an archive is asked, what it replies, and the machine of
 //! records that says which replies are right.
 //!
 //! `specs/Machine.antt` has the machine, with all commands of an archive: a state, and a step for each command and reply.

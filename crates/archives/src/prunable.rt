@@ -1,4 +1,4 @@
-//! The archive whose front can be pruned: values by index and by key.
+//! The archive whose first sections can be pruned: values by index and by key.
 //!
 //! # Format
 //!

@@ -255,9 +255,9 @@ module _ (bits : ℕ) (d : Disk) where
   up_to_name p (e ∷ es) s m q rest at told may = elim (same_or_differ q e.0.items) [
     | inl is ↦
         let mine : may_be (now (track_of e.1)) ≡ true = sym (ap (λ (o : Option BlobLog). may_be (now (track_at o))) (ap (found_at (e ∷ es)) is ∙ here e es)) ∙ may in
-        let front : name_keys p (e ∷ es) ++ rest ≡ key p q ∷ (name_keys p es ++ rest) =
+        let prefix : name_keys p (e ∷ es) ++ rest ≡ key p q ∷ (name_keys p es ++ rest) =
         ap (λ (v : Bool). map (key p) (cond v (e.0.items ∷ names_where may_be es) (names_where may_be es)) ++ rest) mine ∙ ap (λ (x : List ℕ). key p x ∷ (name_keys p es ++ rest)) (sym is) in
-        let none : ahead_of (key p q) (name_keys p (e ∷ es) ++ rest) ≡ [] = ap (ahead_of (key p q)) front ∙ ahead_none (key p q) (name_keys p es ++ rest) in
+        let none : ahead_of (key p q) (name_keys p (e ∷ es) ++ rest) ≡ [] = ap (ahead_of (key p q)) prefix ∙ ahead_none (key p q) (name_keys p es ++ rest) in
         let still : state_in mixer_next s (e ∷ es) q ≡ s = ap (λ (b : Bool). cond b s (state_in mixer_next (mixer_next s e.1) es q)) ((bytes_eq-Decides q e.0.items).1 is) in
         subst (λ (t : Mixer). IsAt bits t (m + free_in bits d (ahead_of (key p q) (name_keys p (e ∷ es) ++ rest)))) (sym still)
         (moved s m (m + free_in bits d (ahead_of (key p q) (name_keys p (e ∷ es) ++ rest))) (omega (arith, ap (free_in bits d) none)) at)

@@ -14,16 +14,16 @@ zeros_at n i = elim (cases_lt i n) [
 ]
 
 -- the old bytes with zeros up to a place
-front : List ℕ → ℕ → List ℕ
-front old at = take at old ++ replicate (at - length old) 0
+prefix : List ℕ → ℕ → List ℕ
+prefix old at = take at old ++ replicate (at - length old) 0
 
-length-front : (old : List ℕ) (at : ℕ) → length (front old at) ≡ at
-unfolding front
-length-front old at = omega (arith, length-append (take at old) (replicate (at - length old) 0), length-take at old, length-replicate {A = ℕ} (at - length old) 0)
+length-prefix : (old : List ℕ) (at : ℕ) → length (prefix old at) ≡ at
+unfolding prefix
+length-prefix old at = omega (arith, length-append (take at old) (replicate (at - length old) 0), length-take at old, length-replicate {A = ℕ} (at - length old) 0)
 
-front_at : (old : List ℕ) (at i : ℕ) → i < at → get_or (front old at) i 0 ≡ get_or old i 0
-unfolding front
-front_at old at i below = elim (cases_lt i (length (take at old))) [
+prefix_at : (old : List ℕ) (at i : ℕ) → i < at → get_or (prefix old at) i 0 ≡ get_or old i 0
+unfolding prefix
+prefix_at old at i below = elim (cases_lt i (length (take at old))) [
   | inl inside ↦ get_or_append_left (take at old) (replicate (at - length old) 0) 0 i inside ∙ get_or-take at old i 0 below
   | inr past ↦ get_or-append_right (take at old) (replicate (at - length old) 0) (length (take at old)) i 0 refl past
       ∙ zeros_at (at - length old) (i - length (take at old))
@@ -32,42 +32,42 @@ front_at old at i below = elim (cases_lt i (length (take at old))) [
 
 module _ (old : List ℕ) (at : ℕ) (bytes : List ℕ) where
   whole : List ℕ
-  whole = front old at ++ bytes ++ drop (at + length bytes) old
+  whole = prefix old at ++ bytes ++ drop (at + length bytes) old
 
-  is_whole : written old at bytes ≡ front old at ++ bytes ++ drop (at + length bytes) old
-  unfolding front
+  is_whole : written old at bytes ≡ prefix old at ++ bytes ++ drop (at + length bytes) old
+  unfolding prefix
   is_whole = refl
 
-  length-two : length (front old at ++ bytes) ≡ at + length bytes
-  length-two = omega (arith, length-append (front old at) bytes, length-front old at)
+  length-two : length (prefix old at ++ bytes) ≡ at + length bytes
+  length-two = omega (arith, length-append (prefix old at) bytes, length-prefix old at)
 
-  written_front : (i : ℕ) → i < at → get_or (written old at bytes) i 0 ≡ get_or old i 0
-  written_front i below = ap (λ (l : List ℕ). get_or l i 0) is_whole
-      ∙ get_or_append_left (front old at ++ bytes) (drop (at + length bytes) old) 0 i (omega (arith, below, length-two))
-      ∙ get_or_append_left (front old at) bytes 0 i (omega (arith, below, length-front old at))
-      ∙ front_at old at i below
+  written_prefix : (i : ℕ) → i < at → get_or (written old at bytes) i 0 ≡ get_or old i 0
+  written_prefix i below = ap (λ (l : List ℕ). get_or l i 0) is_whole
+      ∙ get_or_append_left (prefix old at ++ bytes) (drop (at + length bytes) old) 0 i (omega (arith, below, length-two))
+      ∙ get_or_append_left (prefix old at) bytes 0 i (omega (arith, below, length-prefix old at))
+      ∙ prefix_at old at i below
 
   written_back : (i : ℕ) → at + length bytes ≤ i → get_or (written old at bytes) i 0 ≡ get_or old i 0
   written_back i past = ap (λ (l : List ℕ). get_or l i 0) is_whole
-      ∙ get_or-append_right (front old at ++ bytes) (drop (at + length bytes) old) (at + length bytes) i 0 length-two past
+      ∙ get_or-append_right (prefix old at ++ bytes) (drop (at + length bytes) old) (at + length bytes) i 0 length-two past
       ∙ get_or-drop (at + length bytes) old (i - (at + length bytes)) 0
       ∙ (let e : at + length bytes + (i - (at + length bytes)) ≡ i = omega (arith, past) in ap (λ (j : ℕ). get_or old j 0) e)
 
   -- outside the range: as before, also where the blob becomes longer
   pub written_out : (i : ℕ) → (i < at) ⊎ (at + length bytes ≤ i) → get_or (written old at bytes) i 0 ≡ get_or old i 0
-  written_out i (inl below) = written_front i below
+  written_out i (inl below) = written_prefix i below
   written_out i (inr past) = written_back i past
 
   -- in the range: the bytes
   pub written_in : (i : ℕ) → i < length bytes → get_or (written old at bytes) (at + i) 0 ≡ get_or bytes i 0
   written_in i below = ap (λ (l : List ℕ). get_or l (at + i) 0) is_whole
-      ∙ get_or_append_left (front old at ++ bytes) (drop (at + length bytes) old) 0 (at + i) (omega (arith, below, length-two))
-      ∙ get_or-append_right (front old at) bytes at (at + i) 0 (length-front old at) (omega arith)
+      ∙ get_or_append_left (prefix old at ++ bytes) (drop (at + length bytes) old) 0 (at + i) (omega (arith, below, length-two))
+      ∙ get_or-append_right (prefix old at) bytes at (at + i) 0 (length-prefix old at) (omega arith)
       ∙ (let e : at + i - at ≡ i = omega arith in ap (λ (j : ℕ). get_or bytes j 0) e)
 
 pub resized_below : (old : List ℕ) (n i : ℕ) → i < n → get_or (resized old n) i 0 ≡ get_or old i 0
-unfolding front
-resized_below old n i below = front_at old n i below
+unfolding prefix
+resized_below old n i below = prefix_at old n i below
 
 pub resized_past : (old : List ℕ) (n i : ℕ) → n ≤ i → get_or (resized old n) i 0 ≡ 0
 resized_past old n i past = get_or_past (resized old n) i 0 (omega (arith, past, length-resized old n))

@@ -89,10 +89,10 @@ impl MemSource {
     }
 }
 
-// Copies the front of `from`, as long as `most` and `into` allow, and answers its length.
-fn copy_front(from: &[u8], most: usize, into: &mut [u8]) -> usize
+// Copies the prefix of `from`, as long as `most` and `into` allow, and answers its length.
+fn copy_prefix(from: &[u8], most: usize, into: &mut [u8]) -> usize
     ensures count { result ≡ min (min (length from.now) most) (length into.old) }
-    ensures front { take result into.new ≡ take result from.now }
+    ensures prefix { take result into.new ≡ take result from.now }
 {
     let count = from.len().min(most).min(into.len());
     into[..count].copy_from_slice(&from[..count]);
@@ -129,7 +129,7 @@ impl Source for MemSource {
             return Err(IoFault::Fault);
         }
         let (_, rest) = self.bytes.as_slice().split_at(self.at);
-        let count = copy_front(rest, self.piece, buf);
+        let count = copy_prefix(rest, self.piece, buf);
         self.at += count;
         Ok(count)
     }

@@ -37,10 +37,10 @@ module _ {K : Type 0} (R : K → K → Ordering) where
   sorted_push (k ∷ ks) y sorted below = (all_push (λ j. R k j ≡ Less) ks y sorted.0 below.0, sorted_push ks y sorted.1 below.1)
 
   -- the first keys
-  pub sorted_front : (ks ls : List K) → IsStrictlySortedBy R (ks ++ ls) → IsStrictlySortedBy R ks
+  pub sorted_prefix : (ks ls : List K) → IsStrictlySortedBy R (ks ++ ls) → IsStrictlySortedBy R ks
   unfolding IsStrictlySortedBy
-  sorted_front [] ls sorted = tt
-  sorted_front (k ∷ ks) ls sorted = (all_first (λ j. R k j ≡ Less) ks ls sorted.0, sorted_front ks ls sorted.1)
+  sorted_prefix [] ls sorted = tt
+  sorted_prefix (k ∷ ks) ls sorted = (all_first (λ j. R k j ≡ Less) ks ls sorted.0, sorted_prefix ks ls sorted.1)
 
   -- all of them are below a key behind them
   pub sorted_below : (ks ls : List K) (y : K) → IsStrictlySortedBy R (ks ++ y ∷ ls) → AllByRecursion (λ k. R k y ≡ Less) ks

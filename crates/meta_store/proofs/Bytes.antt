@@ -7,8 +7,8 @@ use Rattle.std.specs.Int.{w32, w64, to_be_bytes, from_be_bytes}
 -- two lists that begin with parts of one length
 pub append_parts : {A : Type 0} (a b x y : List A) → length a ≡ length b → a ++ x ≡ b ++ y → (a ≡ b) × (x ≡ y)
 append_parts a b x y same is =
-    let front = sym (take_at a x (length b) same) ∙ ap (take (length b)) is ∙ take_at b y (length b) refl in
-    (front, append_cancel_left a x y (is ∙ ap (λ l. l ++ y) (sym front)))
+    let prefix = sym (take_at a x (length b) same) ∙ ap (take (length b)) is ∙ take_at b y (length b) refl in
+    (prefix, append_cancel_left a x y (is ∙ ap (λ l. l ++ y) (sym prefix)))
 
 -- a number is told by its bytes
 pub same_number_8 : (m n : ℕ) → m < 2 ^ 64 → n < 2 ^ 64 → to_be_bytes w64 m ≡ to_be_bytes w64 n → m ≡ n

@@ -8,7 +8,7 @@ use Rattle.std.proofs.lemmas.List.Concat.{flat_map-append}
 use Rattle.meta_store.specs.Format.{Format}
 use Rattle.meta_store.specs.Copies.{IsStorable, IsEntries, entry_bytes, entries_bytes}
 use Rattle.meta_store.proofs.Bytes.{take_two}
-use Rattle.meta_store.proofs.Ascending.{sorted_front, keys_append, all_last}
+use Rattle.meta_store.proofs.Ascending.{sorted_prefix, keys_append, all_last}
 
 module _ {K V : Type 0} (f : Format K V) where
   -- these entries are some that were read, and others that the bytes from a place on spell
@@ -42,7 +42,7 @@ module _ {K V : Type 0} (f : Format K V) where
         storable = (all_last (λ e. IsStorable f e.1) items (x ∷ rest) (subst (AllByRecursion (λ e. IsStorable f e.1)) is all.storable)).0;
         ascending =
             let keys : keys_of entries ≡ (keys_of items ++ x.0 ∷ []) ++ keys_of rest = ap keys_of is ∙ keys_append items (x ∷ rest) ∙ sym (append_assoc (keys_of items) (x.0 ∷ []) (keys_of rest)) in
-            sorted_front f.compare (keys_of items ++ x.0 ∷ []) (keys_of rest) (subst (IsStrictlySortedBy f.compare) keys all.ascending);
+            sorted_prefix f.compare (keys_of items ++ x.0 ∷ []) (keys_of rest) (subst (IsStrictlySortedBy f.compare) keys all.ascending);
       }
 
   -- once it is read
@@ -56,10 +56,10 @@ module _ {K V : Type 0} (f : Format K V) where
   }
 
   -- the bytes up to a place spell what was read
-  pub front_more : (bytes : List ℕ) (items : List (K × V)) (at n : ℕ) (entry : K × V) → take at bytes ≡ entries_bytes f.key_bytes f.spelling items → take n (drop at bytes) ≡ entry_bytes f.key_bytes f.spelling entry
+  pub prefix_more : (bytes : List ℕ) (items : List (K × V)) (at n : ℕ) (entry : K × V) → take at bytes ≡ entries_bytes f.key_bytes f.spelling items → take n (drop at bytes) ≡ entry_bytes f.key_bytes f.spelling entry
       → take (at + n) bytes ≡ entries_bytes f.key_bytes f.spelling (items ++ entry ∷ [])
-  front_more bytes items at n entry front next =
-      take_two at n bytes ∙ ap (λ l. l ++ take n (drop at bytes)) front ∙ ap (λ l. entries_bytes f.key_bytes f.spelling items ++ l) (next ∙ sym (append-nil (entry_bytes f.key_bytes f.spelling entry)))
+  prefix_more bytes items at n entry prefix next =
+      take_two at n bytes ∙ ap (λ l. l ++ take n (drop at bytes)) prefix ∙ ap (λ l. entries_bytes f.key_bytes f.spelling items ++ l) (next ∙ sym (append-nil (entry_bytes f.key_bytes f.spelling entry)))
       ∙ sym (flat_map-append (entry_bytes f.key_bytes f.spelling) items (entry ∷ []))
 
   -- at the end nothing is left

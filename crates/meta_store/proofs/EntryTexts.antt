@@ -30,7 +30,7 @@ module _ {K V : Type 0} (key_bytes : K → List ℕ) (spelling : V → List ℕ)
       ∙ ap (λ l. key_bytes k ++ l ++ take size (drop (n + 4) bytes)) (sym is_size ∙ ap (λ (m : ℕ). to_be_bytes w32 m) (sym long))
       ∙ ap (λ l. key_bytes k ++ to_be_bytes w32 (length (spelling v)) ++ l) (sym value)
 
-  -- the parts of an entry at the front
+  -- the parts of an entry at the start
   module _ (bytes rest : List ℕ) (k : K) (v : V) (n : ℕ) (long : length (key_bytes k) ≡ n) (is : bytes ≡ entry_bytes key_bytes spelling (k, v) ++ rest) where
     split : bytes ≡ key_bytes k ++ (to_be_bytes w32 (length (spelling v)) ++ (spelling v ++ rest))
     unfolding entry_bytes

@@ -162,10 +162,10 @@ module _ (seal : List ℕ → ℕ) (bytes : List ℕ) where
       found_head : take (start_of form + len) bytes ≡ head_bytes version form body_of
       unfolding body_of head_bytes
       found_head =
-          let front : take (8 + form_length form) bytes ≡ to_be_bytes w64 version ++ form_bytes form =
+          let prefix : take (8 + form_length form) bytes ≡ to_be_bytes w64 version ++ form_bytes form =
           take_two 8 (form_length form) bytes ∙ ap (λ l. l ++ take (form_length form) (drop 8 bytes)) (sym first) ∙ ap (λ l. to_be_bytes w64 version ++ l) (sym names.named) in
           let more : take (start_of form) bytes ≡ to_be_bytes w64 version ++ form_bytes form ++ to_be_bytes w64 (length body_of) =
-          take_two (8 + form_length form) 8 bytes ∙ ap (λ l. l ++ take 8 (drop (8 + form_length form) bytes)) front
+          take_two (8 + form_length form) 8 bytes ∙ ap (λ l. l ++ take 8 (drop (8 + form_length form) bytes)) prefix
           ∙ ap (λ l. to_be_bytes w64 version ++ form_bytes form ++ l) (sym at_length ∙ ap (λ (n : ℕ). to_be_bytes w64 n) (sym length-body)) in
           take_two (start_of form) len bytes ∙ ap (λ l. l ++ take len (drop (start_of form) bytes)) more
 

@@ -40,17 +40,17 @@ module _ {K V : Type 0} (f : Format K V) where
     one_entry : (d e : K × V) (x y : List ℕ) → IsStorable f d.1 → IsStorable f e.1 → entry_bytes f.key_bytes f.spelling d ++ x ≡ entry_bytes f.key_bytes f.spelling e ++ y → (d ≡ e) × (x ≡ y)
     unfolding entry_bytes
     one_entry d e x y of_d of_e is =
-        let front = λ (g : K × V). f.key_bytes g.0 ++ to_be_bytes w32 (length (f.spelling g.1)) in
-        let split = append_parts (front d) (front e) (f.spelling d.1 ++ x) (f.spelling e.1 ++ y) (sized_front d ∙ sym (sized_front e)) (sym (append_assoc (front d) (f.spelling d.1) x) ∙ is ∙ append_assoc (front e) (f.spelling e.1) y) in
-        let fronts = append_parts (f.key_bytes d.0) (f.key_bytes e.0) (to_be_bytes w32 (length (f.spelling d.1))) (to_be_bytes w32 (length (f.spelling e.1))) (readable.sized d.0 ∙ sym (readable.sized e.0)) split.0 in
-        let same = same_number_4 (length (f.spelling d.1)) (length (f.spelling e.1)) of_d.fits of_e.fits fronts.1 in
+        let prefix = λ (g : K × V). f.key_bytes g.0 ++ to_be_bytes w32 (length (f.spelling g.1)) in
+        let split = append_parts (prefix d) (prefix e) (f.spelling d.1 ++ x) (f.spelling e.1 ++ y) (sized_prefix d ∙ sym (sized_prefix e)) (sym (append_assoc (prefix d) (f.spelling d.1) x) ∙ is ∙ append_assoc (prefix e) (f.spelling e.1) y) in
+        let prefixes = append_parts (f.key_bytes d.0) (f.key_bytes e.0) (to_be_bytes w32 (length (f.spelling d.1))) (to_be_bytes w32 (length (f.spelling e.1))) (readable.sized d.0 ∙ sym (readable.sized e.0)) split.0 in
+        let same = same_number_4 (length (f.spelling d.1)) (length (f.spelling e.1)) of_d.fits of_e.fits prefixes.1 in
         let texts = append_parts (f.spelling d.1) (f.spelling e.1) x y same split.1 in
-        let key = readable.one_key d.0 e.0 fronts.0 in
+        let key = readable.one_key d.0 e.0 prefixes.0 in
         let value = readable.one_value d.1 e.1 of_d.accepted of_e.accepted texts.0 in
         (λ i. (key i, value i), texts.1)
       where
-        sized_front : (g : K × V) → length (f.key_bytes g.0 ++ to_be_bytes w32 (length (f.spelling g.1))) ≡ readable.size + 4
-        sized_front g = omega (arith, length-append (f.key_bytes g.0) (to_be_bytes w32 (length (f.spelling g.1))), readable.sized g.0, length-four (length (f.spelling g.1)))
+        sized_prefix : (g : K × V) → length (f.key_bytes g.0 ++ to_be_bytes w32 (length (f.spelling g.1))) ≡ readable.size + 4
+        sized_prefix g = omega (arith, length-append (f.key_bytes g.0) (to_be_bytes w32 (length (f.spelling g.1))), readable.sized g.0, length-four (length (f.spelling g.1)))
 
     one_list : (ds es : List (K × V)) → length ds ≡ length es → MayBeSynced f ds → MayBeSynced f es → entries_bytes f.key_bytes f.spelling ds ≡ entries_bytes f.key_bytes f.spelling es → ds ≡ es
     one_list [] [] same of_ds of_es is = refl

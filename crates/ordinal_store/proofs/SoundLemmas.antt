@@ -43,7 +43,7 @@ ready_on told key capacity u old new ready unchanged entries = record {
     same : told → now new ≡ now old
     same t = always_now old.time new.time (λ d. d ≡ now old) (unchanged t)
 
--- the slots of a front are those of the whole
+-- the slots of a prefix are those of the whole
 sound_cut : (l : Layout) (c : List ℕ) (count n k : ℕ) → n ≡ count * slot_size l → n ≤ length c → AreSound l (take n c) count k → AreSound l c count k
 sound_cut l c count n k is room s = record {
   within = s.within;

@@ -57,11 +57,11 @@ pub(crate) fn value_in<A: CodecFixed, S: Seal>(
         (λ v. IsSealed (stored_by partition items A.SIZE S.seal_of A.refusal) slot.now (A.spelling v))) }
     ensures cause { OnErr result (result ≡ Err Error.Mem) }
 {
-    let (front, seal) = slot.split_at(A::SIZE);
-    if S::seal(front) != u32_in(seal) {
+    let (prefix, seal) = slot.split_at(A::SIZE);
+    if S::seal(prefix) != u32_in(seal) {
         return Ok(None);
     }
-    spelled(alloc, front)
+    spelled(alloc, prefix)
 }
 
 /// So many bytes from a place on, by one read of the device at most.

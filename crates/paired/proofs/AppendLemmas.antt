@@ -23,17 +23,17 @@ use Rattle.sealed_pages.specs.Contents.{KeepsAll, AddsOnly}
 use Rattle.sealed_pages.specs.Sparing.{Sparing}
 use Rattle.sealed_pages.specs.unsealed.Writing.{shown, blob_key, run_of, Joins, HoldsOnly, StaysBelow, is_idle}
 use Rattle.sealed_pages.proofs.unsealed.ContentLemmas.{adds_keep, keeps_now}
-use Rattle.section_manager.specs.Fronts.{IsFront}
+use Rattle.section_manager.specs.Prefixes.{IsPrefixOf}
 use Rattle.section_manager.specs.Leaving.{AllMoments}
 use Rattle.section_manager.specs.Lasting.{IsOpening}
 use Rattle.section_manager.specs.Setting.{Setting}
 use Rattle.section_manager.specs.Sections.{Sections, key_of}
 use Rattle.section_manager.specs.unsealed.Buffer.{Stands, IsWhole, KeepsBytes, content_of, count_of, is_unsettled}
 use Rattle.section_manager.specs.unsealed.Laws.{passes, idle_parts}
-use Rattle.section_manager.proofs.buffers.UnsealedCalls.{crash_keeps, front_itself}
+use Rattle.section_manager.proofs.buffers.UnsealedCalls.{crash_keeps, prefix_itself}
 use Rattle.paired.specs.glob.Lasting.{Outlasts, IsBeginning, settled_bytes}
-use Rattle.paired.specs.glob.Sections.{section_bytes, section_size, settled_size, size_held, settled_held, HadFronts, TakesMore, IsGlob}
-use Rattle.paired.proofs.GlobLemmas.{buffers, kept_front, front_longer, fronts_longer, Serves, idle_serves, serves_of, outlasts_of, held_bytes, no_bytes}
+use Rattle.paired.specs.glob.Sections.{section_bytes, section_size, settled_size, size_held, settled_held, HadPrefixes, TakesMore, IsGlob}
+use Rattle.paired.proofs.GlobLemmas.{buffers, kept_prefix, prefix_longer, prefixes_longer, Serves, idle_serves, serves_of, outlasts_of, held_bytes, no_bytes}
 use Rattle.blob_device.specs.Lengths.{length-written}
 use Rattle.blob_device.proofs.general.Options.{none_or_value}
 
@@ -128,18 +128,18 @@ new_empty u b stands idle none =
 module _ {told : Type 0} (u : WriteBlob) (bytes added : List ℕ) (is : bytes ≡ added) (k : Key) (a b : Timeline) (key : blob_key (shown u) ≡ k) (t : told) (stands : Stands u (disk a k)) (serves : Serves told u (disk a k))
     (sparing : Sparing (Outside ((count_of u, length bytes) ∷ run_of (shown u) ∷ [])) u.settled (blob_key (shown u)) a b)
     (adds : AddsOnly (content_of u (disk a (blob_key (shown u))).content ∷ (content_of u (disk a (blob_key (shown u))).content ++ bytes) ∷ []) (blob_key (shown u)) a b) where
-  all_fronts : KeepsAll (λ c. IsFront c (content_of u (disk a k).content ++ added)) k a b
-  all_fronts =
+  all_prefixes : KeepsAll (λ c. IsPrefixOf c (content_of u (disk a k).content ++ added)) k a b
+  all_prefixes =
       let had : List ℕ = content_of u (disk a k).content in
-      adds_keep (λ c. IsFront c (content_of u (disk a k).content ++ added)) (content_of u (disk a k).content ∷ (content_of u (disk a k).content ++ added) ∷ []) k a b
-      (fronts_longer (content_of u (disk a k).content) added (disk a k) (serves.fronts t))
-      (front_longer had had added (front_itself had), (front_itself (had ++ added), tt))
+      adds_keep (λ c. IsPrefixOf c (content_of u (disk a k).content ++ added)) (content_of u (disk a k).content ∷ (content_of u (disk a k).content ++ added) ∷ []) k a b
+      (prefixes_longer (content_of u (disk a k).content) added (disk a k) (serves.prefixes t))
+      (prefix_longer had had added (prefix_itself had), (prefix_itself (had ++ added), tt))
       (subst (λ (q : Key). AddsOnly (content_of u (disk a q).content ∷ (content_of u (disk a q).content ++ added) ∷ []) q a b) key
       (subst (λ (l : List ℕ). AddsOnly (content_of u (disk a (blob_key (shown u))).content ∷ (content_of u (disk a (blob_key (shown u))).content ++ l) ∷ []) (blob_key (shown u)) a b) is adds))
 
-  -- what the blob has had are fronts of the bytes with those added
-  pub append_fronts : HadFronts (content_of u (disk a k).content ++ added) (disk b k)
-  append_fronts = keeps_now (λ c. IsFront c (content_of u (disk a k).content ++ added)) k a b all_fronts
+  -- what the blob has had are prefixes of the bytes with those added
+  pub append_prefixes : HadPrefixes (content_of u (disk a k).content ++ added) (disk b k)
+  append_prefixes = keeps_now (λ c. IsPrefixOf c (content_of u (disk a k).content ++ added)) k a b all_prefixes
 
   -- so at each moment, and each crash leaves what had settled
   pub append_moments : AllMoments k (Outlasts (settled_bytes u (disk a k).content) (content_of u (disk a k).content ++ added)) a b
@@ -148,9 +148,9 @@ module _ {told : Type 0} (u : WriteBlob) (bytes added : List ℕ) (is : bytes �
     kept = spares.kept;
     each = λ m low high. record {
       here = record {
-        leaves = λ left may. front_of left (crash_keeps u (Outside ((count_of u, length bytes) ∷ run_of (shown u) ∷ [])) u.settled u.settled (omega arith) (omega arith) (λ i less out. (inl (omega (arith, less, u.order)), out))
+        leaves = λ left may. prefix_of left (crash_keeps u (Outside ((count_of u, length bytes) ∷ run_of (shown u) ∷ [])) u.settled u.settled (omega arith) (omega arith) (λ i less out. (inl (omega (arith, less, u.order)), out))
             (disk a k) (b.at m k) stands (spares.each m low high).here left may);
-        since = λ left may. all_fronts.each m low high;
+        since = λ left may. all_prefixes.each m low high;
       };
       others = (spares.each m low high).others;
     };
@@ -159,12 +159,12 @@ module _ {told : Type 0} (u : WriteBlob) (bytes added : List ℕ) (is : bytes �
       spares : Sparing (Outside ((count_of u, length bytes) ∷ run_of (shown u) ∷ [])) u.settled k a b
       spares = subst (λ (q : Key). Sparing (Outside ((count_of u, length bytes) ∷ run_of (shown u) ∷ [])) u.settled q a b) key sparing
 
-      front_of : (l : Option (List ℕ)) → IsSomeAnd l (KeepsBytes u (disk a k) u.settled) → IsSomeAnd l (IsFront (settled_bytes u (disk a k).content))
-      front_of None has = absurd has
-      front_of (Some c) has = kept_front u (disk a k) u.settled c stands (serves.whole t) (omega arith) has
+      prefix_of : (l : Option (List ℕ)) → IsSomeAnd l (KeepsBytes u (disk a k) u.settled) → IsSomeAnd l (IsPrefixOf (settled_bytes u (disk a k).content))
+      prefix_of None has = absurd has
+      prefix_of (Some c) has = kept_prefix u (disk a k) u.settled c stands (serves.whole t) (omega arith) has
 
 outlasts_longer : (kept bytes added : List ℕ) (b : Blob) → Outlasts kept bytes b → Outlasts kept (bytes ++ added) b
-outlasts_longer kept bytes added b outlasts = record { leaves = outlasts.leaves; since = λ left may. fronts_longer bytes added b (outlasts.since left may) }
+outlasts_longer kept bytes added b outlasts = record { leaves = outlasts.leaves; since = λ left may. prefixes_longer bytes added b (outlasts.since left may) }
 
 pub still_moments : {told : Type 0} (u : WriteBlob) (added : List ℕ) (k : Key) (a : Timeline) → told → Stands u (disk a k) → Serves told u (disk a k)
     → AllMoments k (Outlasts (settled_bytes u (disk a k).content) (content_of u (disk a k).content ++ added)) a a
@@ -179,7 +179,7 @@ still_moments u added k a t stands serves =
 outlasts_none : (kept bytes : List ℕ) (b : Blob) → Outlasts kept bytes b → Outlasts [] bytes b
 outlasts_none kept bytes b outlasts = record { leaves = λ left may. go left (outlasts.leaves left may); since = outlasts.since }
   where
-    go : (l : Option (List ℕ)) → IsSomeAnd l (IsFront kept) → IsSomeAnd l (IsFront [])
+    go : (l : Option (List ℕ)) → IsSomeAnd l (IsPrefixOf kept) → IsSomeAnd l (IsPrefixOf [])
     go None is = absurd is
     go (Some c) is = refl
 

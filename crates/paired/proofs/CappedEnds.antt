@@ -14,11 +14,11 @@ use Rattle.segments.specs.FixedLists as fixed
 use Rattle.value_codec.specs.declared.key.Key8.{Key8}
 use Rattle.meta_store.specs.Store.{Store}
 use Rattle.paired.specs.Kept.{Layout, marker_of, content_at, stored_records, is_sound_in, kept}
-use Rattle.paired.specs.Opening.{as_read, Relation, IsOrder, Front, UpTo}
+use Rattle.paired.specs.Opening.{as_read, Relation, IsOrder, APrefix, UpTo}
 use Rattle.paired.specs.Pair.{AreApart}
-use Rattle.paired.specs.Records.{records, front, entry_of}
+use Rattle.paired.specs.Records.{records, unbroken_prefix, entry_of}
 use Rattle.paired.proofs.Ends.{Bounds, Ends}
-use Rattle.paired.proofs.opening.Ends.{front_order, up_to_order, cut_front, cut_up_to}
+use Rattle.paired.proofs.opening.Ends.{prefix_order, up_to_order, cut_prefix, cut_up_to}
 use Rattle.paired.proofs.reconcile.Resting.{Resting}
 use Rattle.blob_device.proofs.general.Options.{some_same}
 
@@ -40,18 +40,18 @@ is_at section n s p = go (s == section) refl
 
 -- ---- where it ends, whatever is owed of a replay
 module _ {l : Layout} {u : Store Key8 ℕ} {d : Disk} (section n : ℕ) (small : section < 2 ^ 64) (high : marker_of u.entries section ≤ n) where
-  module _ (Rel : Relation) (order : IsOrder Rel) (fronts : (s k : ℕ) → s ≡ section → n ≤ k
-      → Rel s (map (entry_of l.place (content_at (as_read d) l.values s)) (front (is_sound_in l (as_read d) s) (marker_of u.entries s) 0 (take k (stored_records l (as_read d) s)))) (kept l (as_read d) (marker_of u.entries s) s)) where
+  module _ (Rel : Relation) (order : IsOrder Rel) (prefixes : (s k : ℕ) → s ≡ section → n ≤ k
+      → Rel s (map (entry_of l.place (content_at (as_read d) l.values s)) (unbroken_prefix (is_sound_in l (as_read d) s) (marker_of u.entries s) 0 (take k (stored_records l (as_read d) s)))) (kept l (as_read d) (marker_of u.entries s) s)) where
     bounds_by : Bounds Rel l u (only_at section n) d
     bounds_by = record {
       order = order;
       from = λ s p is. (let at = is_at section n s p is in (omega (arith, at.0, small), omega (arith, ap (marker_of u.entries) at.0, high, at.1)));
-      fronts = λ s p fits is k le few. (let at = is_at section n s p is in fronts s k at.0 (omega (arith, at.1, le)));
+      prefixes = λ s p fits is k le few. (let at = is_at section n s p is in prefixes s k at.0 (omega (arith, at.1, le)));
     }
 
   -- where the first of what was kept are to be kept
-  pub bounds_front : Bounds Front l u (only_at section n) d
-  bounds_front = bounds_by Front front_order (λ s k is le. cut_front (entry_of l.place (content_at (as_read d) l.values s)) (is_sound_in l (as_read d) s) (marker_of u.entries s) (stored_records l (as_read d) s) s k)
+  pub bounds_prefix : Bounds APrefix l u (only_at section n) d
+  bounds_prefix = bounds_by APrefix prefix_order (λ s k is le. cut_prefix (entry_of l.place (content_at (as_read d) l.values s)) (is_sound_in l (as_read d) s) (marker_of u.entries s) (stored_records l (as_read d) s) s k)
 
   -- and at least n of them
   pub bounds_up_to : Bounds (UpTo section n) l u (only_at section n) d
@@ -76,11 +76,11 @@ module _ {F S : Type 0} {gs : _} {g : buffer.Ghosts (PageBlob S gs)} {gives : F 
         omega (arith, at.1, more t, ap (λ (x : ℕ). length (records l.record_size (fixed.section_bytes j.sections d x))) at.0));
     gives_all = λ t s none. ap (λ (x : Option ℕ). cut_to x (records l.record_size (fixed.section_bytes j.sections d s))) none;
     gives_to = λ t s p is. ap (λ (x : Option ℕ). cut_to x (records l.record_size (fixed.section_bytes j.sections d s))) is;
-    fronts = λ t. bounds.fronts;
+    prefixes = λ t. bounds.prefixes;
   }
 
-  pub ends_front : Ends g gives takes told Front l j.sections m u (only_at section n) given j o d
-  ends_front = ends_by Front (bounds_front section n small high)
+  pub ends_prefix : Ends g gives takes told APrefix l j.sections m u (only_at section n) given j o d
+  ends_prefix = ends_by APrefix (bounds_prefix section n small high)
 
   pub ends_up_to : Ends g gives takes told (UpTo section n) l j.sections m u (only_at section n) given j o d
   ends_up_to = ends_by (UpTo section n) (bounds_up_to section n small high)

@@ -21,7 +21,7 @@ use Rattle.paired.specs.Kept.{Layout, marker_of, content_at, stored_records, is_
 use Rattle.paired.specs.Opening.{as_read, MayBeOpened, Relation, IsOrder, RecallsBy}
 use Rattle.paired.specs.Pair.{AreApart}
 use Rattle.paired.specs.Reconciling.{CutTo, EndOf, Shortening}
-use Rattle.paired.specs.Records.{is_sound, front}
+use Rattle.paired.specs.Records.{is_sound, unbroken_prefix}
 use Rattle.paired.proofs.Ends.{Bounds, CutsTo, Ends, Between, bounds_of, none_of_not}
 use Rattle.paired.proofs.reconcile.Resting.{Known, known_of, values_number, values_key, stored_at, values_at}
 use Rattle.paired.proofs.reconcile.Phases.{shortening_cuts, shortening_recalls, cutting_recalls, removing_recalls}
@@ -50,7 +50,7 @@ module _ {F S : Type 0} {gs : _} {g : buffer.Ghosts (PageBlob S gs)} {gives : F 
 module _ {F S : Type 0} {gs : _} {g : buffer.Ghosts (PageBlob S gs)} {gives : F → Setting} {takes : WriteFactory → Setting} {told : Type 0} {l : Layout} {i0 : Sections F (PageBlob S gs)} {u : Store Key8 ℕ} {given : ℕ → List (List ℕ)} {May : Type 0}
     (Rel : Relation) (order : IsOrder Rel) (apart : AreApart l) (map_readable : IsReadable l.markers) (t : told) (b : Timeline) (j : Lists F (PageBlob S gs)) (m : Sections WriteFactory WriteBlob) (o : OpenedList) (joint : Between g gives takes told l i0 u given May j m o (disk b)) where
   -- where all that is given is kept
-  pub values_step : ((s : ℕ) → front (λ r. is_sound l.seal (glob.section_bytes m (disk b) s) (l.place r)) (marker_of u.entries s) 0 (given s) ≡ given s)
+  pub values_step : ((s : ℕ) → unbroken_prefix (λ r. is_sound l.seal (glob.section_bytes m (disk b) s) (l.place r)) (marker_of u.entries s) 0 (given s) ≡ given s)
       → (c : Timeline) → Always b c (Each (Cutting m (EndOf l.place l.record_size j.sections (disk b)) (disk b)))
       → Step l Rel May (IsKeyOf m (λ s. IsSomeAnd (EndOf l.place l.record_size j.sections (disk b) s) (glob.IsLonger m s))) b c
   values_step whole c moments =
@@ -61,11 +61,11 @@ module _ {F S : Type 0} {gs : _} {g : buffer.Ghosts (PageBlob S gs)} {gives : F 
       }
     where
       -- all records that are stored are kept
-      all_kept : (s : ℕ) → s < 2 ^ 64 → front (is_sound_in l (as_read (disk b)) s) (marker_of u.entries s) 0 (stored_records l (as_read (disk b)) s) ≡ stored_records l (as_read (disk b)) s
+      all_kept : (s : ℕ) → s < 2 ^ 64 → unbroken_prefix (is_sound_in l (as_read (disk b)) s) (marker_of u.entries s) 0 (stored_records l (as_read (disk b)) s) ≡ stored_records l (as_read (disk b)) s
       all_kept s small =
           let stored : stored_records l (as_read (disk b)) s ≡ given s = stored_at joint.rests t s small ∙ joint.records t s in
           let values : content_at (as_read (disk b)) l.values s ≡ glob.section_bytes m (disk b) s = values_at joint.rests.parts t s small in
-          (λ i. front (λ r. is_sound l.seal (values i) (l.place r)) (marker_of u.entries s) 0 (stored i)) ∙ whole s ∙ sym stored
+          (λ i. unbroken_prefix (λ r. is_sound l.seal (values i) (l.place r)) (marker_of u.entries s) 0 (stored i)) ∙ whole s ∙ sym stored
 
   pub removing_step : (Doomed : ℕ → Type 0) → ((s : ℕ) → Doomed s → IsHeld j.sections s → ⊥) → (c : Timeline) → Always b c (λ d. (q : Key) → (IsKeyOf m (λ s. Doomed s × IsHeld m s) q → ⊥) → d q ≡ disk b q)
       → Step l Rel May (IsKeyOf m (λ s. Doomed s × IsHeld m s)) b c

@@ -27,7 +27,7 @@ use Rattle.paired.specs.Opening.{as_read, Relation, IsOrder}
 use Rattle.paired.specs.Pair.{AreApart, HasNoBytes}
 use Rattle.paired.specs.Places.{last_end}
 use Rattle.paired.specs.Reconciling.{CutTo, EndOf, Shortening}
-use Rattle.paired.specs.Records.{records, front, entry_of}
+use Rattle.paired.specs.Records.{records, unbroken_prefix, entry_of}
 use Rattle.paired.proofs.GlobLemmas.{buffers}
 use Rattle.paired.proofs.reconcile.Resting.{Resting}
 
@@ -104,19 +104,19 @@ pub record Ends {F S : Type 0} {gs : _} (g : buffer.Ghosts (PageBlob S gs)) (giv
   pub within : told → (s p : ℕ) → ends s ≡ Some p → p < length (records l.record_size (fixed.section_bytes j.sections d s))
   pub gives_all : told → (s : ℕ) → ends s ≡ None → given s ≡ records l.record_size (fixed.section_bytes j.sections d s)
   pub gives_to : told → (s p : ℕ) → ends s ≡ Some p → given s ≡ take p (records l.record_size (fixed.section_bytes j.sections d s))
-  pub fronts : told → (s p : ℕ) → s < 2 ^ 64 → ends s ≡ Some p → (k : ℕ) → p ≤ k → k ≤ length (stored_records l (as_read d) s)
-      → Rel s (map (entry_of l.place (content_at (as_read d) l.values s)) (front (is_sound_in l (as_read d) s) (marker_of u.entries s) 0 (take k (stored_records l (as_read d) s)))) (kept l (as_read d) (marker_of u.entries s) s)
+  pub prefixes : told → (s p : ℕ) → s < 2 ^ 64 → ends s ≡ Some p → (k : ℕ) → p ≤ k → k ≤ length (stored_records l (as_read d) s)
+      → Rel s (map (entry_of l.place (content_at (as_read d) l.values s)) (unbroken_prefix (is_sound_in l (as_read d) s) (marker_of u.entries s) 0 (take k (stored_records l (as_read d) s)))) (kept l (as_read d) (marker_of u.entries s) s)
 
 -- What of that a cut of records needs, whatever is owed of a replay.
 pub record Bounds (Rel : Relation) (l : Layout) (u : Store Key8 ℕ) (ends : ℕ → Option ℕ) (d : Disk) : Type 0 where
   pub order : IsOrder Rel
   pub from : (s p : ℕ) → ends s ≡ Some p → (s < 2 ^ 64) × (marker_of u.entries s ≤ p)
-  pub fronts : (s p : ℕ) → s < 2 ^ 64 → ends s ≡ Some p → (k : ℕ) → p ≤ k → k ≤ length (stored_records l (as_read d) s)
-      → Rel s (map (entry_of l.place (content_at (as_read d) l.values s)) (front (is_sound_in l (as_read d) s) (marker_of u.entries s) 0 (take k (stored_records l (as_read d) s)))) (kept l (as_read d) (marker_of u.entries s) s)
+  pub prefixes : (s p : ℕ) → s < 2 ^ 64 → ends s ≡ Some p → (k : ℕ) → p ≤ k → k ≤ length (stored_records l (as_read d) s)
+      → Rel s (map (entry_of l.place (content_at (as_read d) l.values s)) (unbroken_prefix (is_sound_in l (as_read d) s) (marker_of u.entries s) 0 (take k (stored_records l (as_read d) s)))) (kept l (as_read d) (marker_of u.entries s) s)
 
 pub bounds_of : {F S : Type 0} {gs : _} {g : buffer.Ghosts (PageBlob S gs)} {gives : F → Setting} {takes : WriteFactory → Setting} {told : Type 0} {Rel : Relation} {l : Layout} {i0 : Sections F (PageBlob S gs)} {m0 : Sections WriteFactory WriteBlob} {u : Store Key8 ℕ} {ends : ℕ → Option ℕ} {given : ℕ → List (List ℕ)} {j : Lists F (PageBlob S gs)} {o : OpenedList} {d : Disk}
     → Ends g gives takes told Rel l i0 m0 u ends given j o d → told → Bounds Rel l u ends d
-bounds_of e t = record { order = e.order; from = e.from; fronts = e.fronts t }
+bounds_of e t = record { order = e.order; from = e.from; prefixes = e.prefixes t }
 
 -- Each crash leaves of the sealed bytes of a section that is cut a prefix that holds the records before its end. No other blob has changed.
 pub record CutsTo (l : Layout) (ends : ℕ → Option ℕ) (from d : Disk) : Type 0 where

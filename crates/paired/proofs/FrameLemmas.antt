@@ -6,7 +6,7 @@ use Rattle.std.specs.Int.{w32, to_be_bytes, from_be_bytes}
 use Rattle.std.proofs.lemmas.List.{take-append-le, drop-append-le, length-take}
 use Rattle.std.proofs.lemmas.Nat.{from_be_bytes-to_be_bytes_4}
 use Rattle.std.proofs.Math.Seq.{take-length, take-append_seam, drop-append_seam}
-use Rattle.section_manager.specs.Fronts.{IsFront}
+use Rattle.section_manager.specs.Prefixes.{IsPrefixOf}
 use Rattle.paired.specs.Frames.{with_number, bytes_at, frame, HasFrame, IsSealed, IsBroken}
 
 length-number : (n : ℕ) → length (to_be_bytes w32 n) ≡ 4
@@ -24,8 +24,8 @@ pub length-bytes_at : (bytes : List ℕ) (at n : ℕ) → at + n ≤ length byte
 length-bytes_at bytes at n inside = length-take-le n (drop at bytes) (omega (arith, length-drop at bytes))
 
 -- bytes and a number behind them are known by what they make
-pub one_front : (a b : List ℕ) (m n : ℕ) → with_number a m ≡ with_number b n → a ≡ b
-one_front a b m n same =
+pub one_prefix : (a b : List ℕ) (m n : ℕ) → with_number a m ≡ with_number b n → a ≡ b
+one_prefix a b m n same =
     let long : length a ≡ length b = omega (arith, length-with_number a m, length-with_number b n, ap length same) in
     sym (take-append_seam a (to_be_bytes w32 m)) ∙ ap (take (length a)) same ∙ ap (λ (k : ℕ). take k (with_number b n)) long ∙ take-append_seam b (to_be_bytes w32 n)
 
@@ -60,13 +60,13 @@ module _ (seal : List ℕ → ℕ) where
         is = sym (bytes_at-added (take end bytes) (drop end bytes) at n inside) ∙ ap (λ (l : List ℕ). bytes_at l at n) (take-append-drop end bytes) ∙ has.is;
       }
 
-  pub outlasts : (kept left : List ℕ) (at n : ℕ) (spelled : List ℕ) → IsFront kept left → HasFrame seal kept at n spelled → HasFrame seal left at n spelled
-  outlasts kept left at n spelled front has =
-      subst (λ (l : List ℕ). HasFrame seal l at n spelled) (ap (λ (l : List ℕ). l ++ drop (length kept) left) (sym front) ∙ take-append-drop (length kept) left)
+  pub outlasts : (kept left : List ℕ) (at n : ℕ) (spelled : List ℕ) → IsPrefixOf kept left → HasFrame seal kept at n spelled → HasFrame seal left at n spelled
+  outlasts kept left at n spelled prefix has =
+      subst (λ (l : List ℕ). HasFrame seal l at n spelled) (ap (λ (l : List ℕ). l ++ drop (length kept) left) (sym prefix) ∙ take-append-drop (length kept) left)
       (added kept (drop (length kept) left) at n spelled has)
 
   pub one : (bytes : List ℕ) (at n : ℕ) (a b : List ℕ) → HasFrame seal bytes at n a → HasFrame seal bytes at n b → a ≡ b
-  one bytes at n a b first second = one_front a b (seal a) (seal b) (sym first.is ∙ second.is)
+  one bytes at n a b first second = one_prefix a b (seal a) (seal b) (sym first.is ∙ second.is)
 
   pub size : (bytes : List ℕ) (at n : ℕ) (spelled : List ℕ) → HasFrame seal bytes at n spelled → n ≡ length spelled + 4
   size bytes at n spelled has = sym (length-bytes_at bytes at n has.inside) ∙ ap length has.is ∙ length-frame spelled
@@ -75,6 +75,6 @@ module _ (seal : List ℕ → ℕ) where
   pub not_broken : ((spelled : List ℕ) → seal spelled < 2 ^ 32) → (bytes : List ℕ) (at n stored computed : ℕ) → IsBroken seal bytes at n stored computed → IsSealed seal bytes at n → ⊥
   not_broken fits bytes at n stored computed broken sealed =
       let same : with_number broken.spelled stored ≡ frame seal sealed.0 = sym broken.is ∙ sealed.1.is in
-      let front : broken.spelled ≡ sealed.0 = one_front broken.spelled sealed.0 stored (seal sealed.0) same in
+      let prefix : broken.spelled ≡ sealed.0 = one_prefix broken.spelled sealed.0 stored (seal sealed.0) same in
       let number : stored ≡ seal sealed.0 = one_number broken.spelled sealed.0 stored (seal sealed.0) broken.fits (fits sealed.0) same in
-      broken.differs (number ∙ ap seal (sym front) ∙ sym broken.sealed)
+      broken.differs (number ∙ ap seal (sym prefix) ∙ sym broken.sealed)

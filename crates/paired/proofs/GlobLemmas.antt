@@ -13,17 +13,17 @@ use Rattle.sealed_pages.specs.Entries.{IsOpenAt, ReadsAtMost}
 use Rattle.sealed_pages.specs.unsealed.Writing.{shown, is_idle, StandsBehind}
 use Rattle.section_manager.specs.declared.buffer.SectionBuffer as buffer
 use Rattle.section_manager.specs.contracts.unsealed.WriteBlobSectionBuffer.TheImpl as write_blob
-use Rattle.section_manager.specs.Fronts.{IsFront}
+use Rattle.section_manager.specs.Prefixes.{IsPrefixOf}
 use Rattle.section_manager.specs.Leaving.{Leaves}
 use Rattle.section_manager.specs.Setting.{Setting}
 use Rattle.section_manager.specs.Sections.{Sections, key_of, IsHeld, IsSame, SameBounds, IsKeyOf, IsOver}
-use Rattle.section_manager.specs.unsealed.Buffer.{Stands, IsWhole, KeepsBytes, IsOldOrFront, MayKeep, content_of, is_unsettled}
+use Rattle.section_manager.specs.unsealed.Buffer.{Stands, IsWhole, KeepsBytes, IsOldOrPrefix, MayKeep, content_of, is_unsettled}
 use Rattle.section_manager.specs.unsealed.Laws.{all_weaker, counted, settled_within, idle_parts, rested, found_again}
 use Rattle.section_manager.specs.lemmas.Keys.{key_injective, keys_differ}
 use Rattle.section_manager.proofs.sections.OverLemmas.{same_key}
-use Rattle.section_manager.proofs.buffers.UnsealedCalls.{front_itself, whole_at_rest}
+use Rattle.section_manager.proofs.buffers.UnsealedCalls.{prefix_itself, whole_at_rest}
 use Rattle.paired.specs.glob.Lasting.{Outlasts}
-use Rattle.paired.specs.glob.Sections.{bytes_held, size_held, section_bytes, section_size, HadFronts, HasSettled, TakesMore, IsGlob}
+use Rattle.paired.specs.glob.Sections.{bytes_held, size_held, section_bytes, section_size, HadPrefixes, HasSettled, TakesMore, IsGlob}
 use Rattle.blob_device.specs.Places.{written_out}
 use Rattle.blob_device.proofs.general.Options.{none_or_value}
 
@@ -52,8 +52,8 @@ pub idle_whole : (u : WriteBlob) (b : Blob) → Stands u b → is_unsettled u �
 idle_whole u b stands is = whole_at_rest u b is (ap (λ (x : Blob). x.loose) (rested u b stands is))
 
 -- Where only bytes were added since the settled ones settled, what a crash may leave begins with those.
-pub kept_front : (u : WriteBlob) (b : Blob) (least : ℕ) (c : List ℕ) → Stands u b → IsWhole u b → least ≤ u.settled → KeepsBytes u b least c → IsFront (take least (content_of u b.content)) c
-kept_front u b least c stands whole few keeps =
+pub kept_prefix : (u : WriteBlob) (b : Blob) (least : ℕ) (c : List ℕ) → Stands u b → IsWhole u b → least ≤ u.settled → KeepsBytes u b least c → IsPrefixOf (take least (content_of u b.content)) c
+kept_prefix u b least c stands whole few keeps =
     let all : List ℕ = content_of u b.content in
     let enough : least ≤ length all = omega (arith, few, counted u b stands, settled_within u b stands) in
     let long : length (take least all) ≡ least = length-take-le least all enough in
@@ -64,28 +64,28 @@ kept_front u b least c stands whole few keeps =
     get_or-take least c i 0 low ∙ (keeps.same i low spared.0 spared.1).same
     ∙ sym (written_out b.content u.at u.pending.items i spared.0.0) ∙ sym (get_or-take least all i 0 low))
 
--- a front of bytes is one of more bytes
-pub front_longer : (c bytes added : List ℕ) → IsFront c bytes → IsFront c (bytes ++ added)
-front_longer c bytes added front = take-append-le (length c) bytes added (omega (arith, ap length front, length-take (length c) bytes)) ∙ front
+-- a prefix of bytes is one of more bytes
+pub prefix_longer : (c bytes added : List ℕ) → IsPrefixOf c bytes → IsPrefixOf c (bytes ++ added)
+prefix_longer c bytes added prefix = take-append-le (length c) bytes added (omega (arith, ap length prefix, length-take (length c) bytes)) ∙ prefix
 
-pub fronts_longer : (bytes added : List ℕ) (b : Blob) → HadFronts bytes b → HadFronts (bytes ++ added) b
-fronts_longer bytes added b had = all_weaker (λ c. IsFront c bytes) (λ c. IsFront c (bytes ++ added)) (past b) (λ c front. front_longer c bytes added front) had
+pub prefixes_longer : (bytes added : List ℕ) (b : Blob) → HadPrefixes bytes b → HadPrefixes (bytes ++ added) b
+prefixes_longer bytes added b had = all_weaker (λ c. IsPrefixOf c bytes) (λ c. IsPrefixOf c (bytes ++ added)) (past b) (λ c prefix. prefix_longer c bytes added prefix) had
 
--- where the contents that the blob had were fronts
-old_fronts : (u : WriteBlob) (from : Blob) → HadFronts (content_of u from.content) from → (c : List ℕ) → IsOldOrFront u from c → IsFront c (content_of u from.content)
-old_fronts u from had c (inl old) = All-contains (λ x. IsFront x (content_of u from.content)) (past from) c (All-from_recursion (λ x. IsFront x (content_of u from.content)) (past from) had) old
-old_fronts u from had c (inr front) = front
+-- where the contents that the blob had were prefixes
+old_prefixes : (u : WriteBlob) (from : Blob) → HadPrefixes (content_of u from.content) from → (c : List ℕ) → IsOldOrPrefix u from c → IsPrefixOf c (content_of u from.content)
+old_prefixes u from had c (inl old) = All-contains (λ x. IsPrefixOf x (content_of u from.content)) (past from) c (All-from_recursion (λ x. IsPrefixOf x (content_of u from.content)) (past from) had) old
+old_prefixes u from had c (inr prefix) = prefix
 
 -- a blob at rest, over which a new buffer would have the same bytes
-pub rested_fronts : (u : WriteBlob) (b : Blob) → IsAtRest b → b.content ≡ content_of u b.content → HadFronts (content_of u b.content) b
-rested_fronts u b rests again = subst (HadFronts (content_of u b.content)) (sym rests) (subst (IsFront b.content) again (front_itself b.content), tt)
+pub rested_prefixes : (u : WriteBlob) (b : Blob) → IsAtRest b → b.content ≡ content_of u b.content → HadPrefixes (content_of u b.content) b
+rested_prefixes u b rests again = subst (HadPrefixes (content_of u b.content)) (sym rests) (subst (IsPrefixOf b.content) again (prefix_itself b.content), tt)
 
 -- the buffer, over this blob, is as a glob has those of its sections
 pub record Serves (told : Type 0) (u : WriteBlob) (b : Blob) : Type 0 where
   pub ends : TakesMore u
   pub behind : StandsBehind (shown u)
   pub whole : told → IsWhole u b
-  pub fronts : told → HadFronts (content_of u b.content) b
+  pub prefixes : told → HadPrefixes (content_of u b.content) b
 
 -- so is one of which nothing is unsettled
 pub idle_serves : {told : Type 0} (u : WriteBlob) (b : Blob) → (told → Stands u b) → is_unsettled u ≡ false → Serves told u b
@@ -93,21 +93,21 @@ idle_serves u b stands is = record {
   ends = idle_takes u is;
   behind = idle_behind u is;
   whole = λ t. idle_whole u b (stands t) is;
-  fronts = λ t. rested_fronts u b (rested u b (stands t) is) (found_again u b (stands t) (idle_whole u b (stands t) is) is);
+  prefixes = λ t. rested_prefixes u b (rested u b (stands t) is) (found_again u b (stands t) (idle_whole u b (stands t) is) is);
 }
 
 -- what the test of the buffer leaves, in bytes
 pub outlasts_of : {told : Type 0} (u : WriteBlob) (from b : Blob) (least : ℕ) → Stands u from → Serves told u from → told → least ≤ u.settled → Leaves (λ _ _. ⊤) (MayKeep u from least) b
     → Outlasts (take least (content_of u from.content)) (content_of u from.content) b
-outlasts_of u from b least stands serves t few leaves = record { leaves = λ left may. kept left (leaves left may); since = λ left may. fronts left (leaves left may) }
+outlasts_of u from b least stands serves t few leaves = record { leaves = λ left may. kept left (leaves left may); since = λ left may. prefixes left (leaves left may) }
   where
-    kept : (l : Option (List ℕ)) → IsSomeAnd l (λ c. ⊤ → MayKeep u from least (past b) c) → IsSomeAnd l (IsFront (take least (content_of u from.content)))
+    kept : (l : Option (List ℕ)) → IsSomeAnd l (λ c. ⊤ → MayKeep u from least (past b) c) → IsSomeAnd l (IsPrefixOf (take least (content_of u from.content)))
     kept None is = absurd is
-    kept (Some c) is = kept_front u from least c stands (serves.whole t) few (is tt).bytes
+    kept (Some c) is = kept_prefix u from least c stands (serves.whole t) few (is tt).bytes
 
-    fronts : (l : Option (List ℕ)) → IsSomeAnd l (λ c. ⊤ → MayKeep u from least (past b) c) → HadFronts (content_of u from.content) b
-    fronts None is = absurd is
-    fronts (Some c) is = all_weaker (IsOldOrFront u from) (λ x. IsFront x (content_of u from.content)) (past b) (old_fronts u from (serves.fronts t)) ((is tt).since serves.behind)
+    prefixes : (l : Option (List ℕ)) → IsSomeAnd l (λ c. ⊤ → MayKeep u from least (past b) c) → HadPrefixes (content_of u from.content) b
+    prefixes None is = absurd is
+    prefixes (Some c) is = all_weaker (IsOldOrPrefix u from) (λ x. IsPrefixOf x (content_of u from.content)) (past b) (old_prefixes u from (serves.prefixes t)) ((is tt).since serves.behind)
 
 module _ {F : Type 0} (m : Sections F WriteBlob) where
   pub held_bytes : (d : Disk) (s : ℕ) (u : WriteBlob) → m.held s ≡ Some u → section_bytes m d s ≡ content_of u (d (key_of m s)).content
@@ -140,7 +140,7 @@ glob_of n new e over serves unopened = record {
   ends = λ s u held. (serves s u held).ends;
   behind = λ s u held. (serves s u held).behind;
   whole = λ t s u held. (serves s u held).whole t;
-  fronts = λ t s u held. subst (λ (bytes : List ℕ). HadFronts bytes (e (key_of n s))) (sym (held_bytes n e s u held)) ((serves s u held).fronts t);
+  prefixes = λ t s u held. subst (λ (bytes : List ℕ). HadPrefixes bytes (e (key_of n s))) (sym (held_bytes n e s u held)) ((serves s u held).prefixes t);
   unopened = unopened;
 }
 
@@ -154,7 +154,7 @@ module _ {F : Type 0} (gives : F → Setting) {told : Type 0} (m : Sections F Wr
     ends = glob.ends s u held;
     behind = glob.behind s u held;
     whole = λ t. glob.whole t s u held;
-    fronts = λ t. subst (λ (bytes : List ℕ). HadFronts bytes (d (key_of m s))) (held_bytes m d s u held) (glob.fronts t s u held);
+    prefixes = λ t. subst (λ (bytes : List ℕ). HadPrefixes bytes (d (key_of m s))) (held_bytes m d s u held) (glob.prefixes t s u held);
   }
 
   same_serves : (n : Sections F WriteBlob) (e : Disk) (s : ℕ) → n.held s ≡ m.held s → (told → e (key_of n s) ≡ d (key_of m s)) → (u : WriteBlob) → n.held s ≡ Some u → Serves told u (e (key_of n s))
@@ -163,7 +163,7 @@ module _ {F : Type 0} (gives : F → Setting) {told : Type 0} (m : Sections F Wr
         ends = was.ends;
         behind = was.behind;
         whole = λ t. subst (IsWhole u) (sym (blob t)) (was.whole t);
-        fronts = λ t. subst (λ (b : Blob). HadFronts (content_of u b.content) b) (sym (blob t)) (was.fronts t);
+        prefixes = λ t. subst (λ (b : Blob). HadPrefixes (content_of u b.content) b) (sym (blob t)) (was.prefixes t);
       }
 
   -- A glob stays what it is where the blobs of its partition's sections stay, in the list and on the disk.
@@ -188,7 +188,7 @@ module _ {F : Type 0} (gives : F → Setting) {told : Type 0} (m : Sections F Wr
     ends = glob.ends;
     behind = glob.behind;
     whole = λ t s u held. subst (IsWhole u) (sym (blobs t s (number_of s u held))) (glob.whole t s u held);
-    fronts = λ t s u held. subst (λ (b : Blob). HadFronts (bytes_held (m.held s) b.content) b) (sym (blobs t s (number_of s u held))) (glob.fronts t s u held);
+    prefixes = λ t s u held. subst (λ (b : Blob). HadPrefixes (bytes_held (m.held s) b.content) b) (sym (blobs t s (number_of s u held))) (glob.prefixes t s u held);
     unopened = glob.unopened;
   }
 

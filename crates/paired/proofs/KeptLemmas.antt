@@ -6,26 +6,26 @@ use Rattle.std.proofs.lemmas.Bool.{and_parts, and_from, leb-true, le-leb, eqb-tr
 use Rattle.std.proofs.lemmas.List.{take-take, take-map, length-map}
 use Rattle.sealed_pages.specs.SealedPrefix.{sealed_prefix, Prefix}
 use Rattle.meta_store.specs.Crashes.{SomeByRecursion}
-use Rattle.section_manager.specs.Fronts.{IsFront}
+use Rattle.section_manager.specs.Prefixes.{IsPrefixOf}
 use Rattle.paired.specs.Frames.{bytes_at}
-use Rattle.paired.specs.Records.{Entry, records, entries_of, is_sound, front, entry_of}
+use Rattle.paired.specs.Records.{Entry, records, entries_of, is_sound, unbroken_prefix, entry_of}
 use Rattle.paired.specs.Places.{Follow, end_of}
 use Rattle.paired.specs.Crashes.{IsPrefix, WasThere}
 use Rattle.paired.proofs.FrameLemmas.{length-bytes_at}
-use Rattle.paired.specs.lemmas.Records.{bytes_at-take, records-front, records-enough, map-same, front-take, front-enough, front-all}
+use Rattle.paired.specs.lemmas.Records.{bytes_at-take, records-prefix, records-enough, map-same, prefix-take, prefix-enough, prefix-all}
 use Rattle.blob_device.proofs.general.Lists.{all_by, all_take, all_with}
 
--- bytes in a front stand at the same place in what it is a front of
-pub front_bytes : (kept c : List ℕ) (at n : ℕ) → IsFront kept c → at + n ≤ length kept → bytes_at kept at n ≡ bytes_at c at n
-front_bytes kept c at n is inside = ap (λ (l : List ℕ). bytes_at l at n) (sym is) ∙ bytes_at-take at n (length kept) c inside
+-- bytes in a prefix stand at the same place in what it is a prefix of
+pub prefix_bytes : (kept c : List ℕ) (at n : ℕ) → IsPrefixOf kept c → at + n ≤ length kept → bytes_at kept at n ≡ bytes_at c at n
+prefix_bytes kept c at n is inside = ap (λ (l : List ℕ). bytes_at l at n) (sym is) ∙ bytes_at-take at n (length kept) c inside
 
 -- bytes among those that had settled are there after the crash
-pub settled_bytes : (values cv : List ℕ) (settled at n : ℕ) → IsFront (take settled values) cv → at + n ≤ length (take settled values) → bytes_at cv at n ≡ bytes_at values at n
+pub settled_bytes : (values cv : List ℕ) (settled at n : ℕ) → IsPrefixOf (take settled values) cv → at + n ≤ length (take settled values) → bytes_at cv at n ≡ bytes_at values at n
 settled_bytes values cv settled at n is inside =
-    sym (front_bytes (take settled values) cv at n is inside) ∙ bytes_at-take at n settled values (omega (arith, inside, length-take settled values))
+    sym (prefix_bytes (take settled values) cv at n is inside) ∙ bytes_at-take at n settled values (omega (arith, inside, length-take settled values))
 
 -- as many bytes as these are there after the crash
-pub settled_length : (kept c : List ℕ) → IsFront kept c → length kept ≤ length c
+pub settled_length : (kept c : List ℕ) → IsPrefixOf kept c → length kept ≤ length c
 settled_length kept c is = omega (arith, length-take (length kept) c, ap length is)
 
 -- what soundness says
@@ -47,7 +47,7 @@ sound_from seal values at n some inside same =
     (and_from (nat_le 4 n) (nat_le (at + n) (length values)) (le-leb 4 n some) (le-leb (at + n) (length values) inside)) (eq-eqb computed stored same)
 
 -- a frame among the bytes that had settled is sound after the crash
-pub sound_settled : (seal : List ℕ → ℕ) (values cv : List ℕ) (settled at n : ℕ) → IsFront (take settled values) cv → at + n ≤ length (take settled values)
+pub sound_settled : (seal : List ℕ → ℕ) (values cv : List ℕ) (settled at n : ℕ) → IsPrefixOf (take settled values) cv → at + n ≤ length (take settled values)
     → IsTrue (is_sound seal values (at, n)) → IsTrue (is_sound seal cv (at, n))
 sound_settled seal values cv settled at n is inside sound =
     let parts = sound_parts seal values at n sound in
@@ -56,14 +56,14 @@ sound_settled seal values cv settled at n is inside sound =
     let last : bytes_at cv (at + (n - 4)) 4 ≡ bytes_at values (at + (n - 4)) 4 = settled_bytes values cv settled (at + (n - 4)) 4 is (omega (arith, inside, some)) in
     sound_from seal cv at n some (omega (arith, inside, settled_length (take settled values) cv is)) (ap seal first ∙ parts.2 ∙ ap (from_be_bytes w32) (sym last))
 
--- bytes that one of the fronts of a list has are the list's
-pub there_bytes : (values cv : List ℕ) (at n : ℕ) → 4 ≤ n → at + n ≤ length cv → (contents : List (List ℕ)) → AllByRecursion (λ c. IsFront c values) contents
+-- bytes that one of the prefixes of a list has are the list's
+pub there_bytes : (values cv : List ℕ) (at n : ℕ) → 4 ≤ n → at + n ≤ length cv → (contents : List (List ℕ)) → AllByRecursion (λ c. IsPrefixOf c values) contents
     → SomeByRecursion (λ p. bytes_at p at n ≡ bytes_at cv at n) contents → bytes_at cv at n ≡ bytes_at values at n
-there_bytes values cv at n some inside [] fronts there = absurd there
-there_bytes values cv at n some inside (c ∷ cs) fronts (inl same) =
+there_bytes values cv at n some inside [] prefixes there = absurd there
+there_bytes values cv at n some inside (c ∷ cs) prefixes (inl same) =
     let long : at + n ≤ length c = omega (arith, some, ap length same, length-bytes_at cv at n inside, length-take n (drop at c), length-drop at c) in
-    sym same ∙ front_bytes c values at n fronts.0 long
-there_bytes values cv at n some inside (c ∷ cs) fronts (inr later) = there_bytes values cv at n some inside cs fronts.1 later
+    sym same ∙ prefix_bytes c values at n prefixes.0 long
+there_bytes values cv at n some inside (c ∷ cs) prefixes (inr later) = there_bytes values cv at n some inside cs prefixes.1 later
 
 module _ (place : List ℕ → ℕ × ℕ) where
   -- the frame that a record names ends among so many bytes
@@ -110,7 +110,7 @@ stored_entries place values (r ∷ rs) = ap (λ (xs : List (List ℕ)). r ∷ xs
 module _ (seal : List ℕ → ℕ) (place : List ℕ → ℕ × ℕ) (values cv : List ℕ) (all rs : List (List ℕ)) (end synced settled marker : ℕ) (contents : List (List ℕ))
     (marked : marker ≤ synced) (enough : synced ≤ length rs) (first : rs ≡ take (length rs) all)
     (follow : Follow place 0 all end) (room : end ≤ length values) (sound : AllByRecursion (λ r. IsTrue (is_sound seal values (place r))) all) (reach : end_of place 0 (take synced all) ≤ settled)
-    (is_front : IsFront (take settled values) cv) (fronts : AllByRecursion (λ c. IsFront c values) contents)
+    (is_prefix : IsPrefixOf (take settled values) cv) (prefixes : AllByRecursion (λ c. IsPrefixOf c values) contents)
     (none : AllByRecursion (λ r. IsTrue (is_sound seal cv (place r)) → WasThere contents cv (place r)) rs) where
   abbrev is_kept : List ℕ → Bool
   is_kept r = is_sound seal cv (place r)
@@ -132,12 +132,12 @@ module _ (seal : List ℕ → ℕ) (place : List ℕ → ℕ × ℕ) (values cv 
 
   synced_sound : AllByRecursion IsKept (take synced rs)
   synced_sound = subst (AllByRecursion IsKept) (sym first_same)
-      (all_with (EndsBy place (length (take settled values))) WasSound IsKept (λ r inside was. sound_settled seal values cv settled (place r).0 (place r).1 is_front inside was)
+      (all_with (EndsBy place (length (take settled values))) WasSound IsKept (λ r inside was. sound_settled seal values cv settled (place r).0 (place r).1 is_prefix inside was)
       (take synced all) ends (all_take WasSound synced all sound))
 
   synced_same : AllByRecursion IsSame (take synced rs)
   synced_same = subst (AllByRecursion IsSame) (sym first_same)
-      (all_by (EndsBy place (length (take settled values))) IsSame (λ r inside. settled_bytes values cv settled (place r).0 (place r).1 is_front inside) (take synced all) ends)
+      (all_by (EndsBy place (length (take settled values))) IsSame (λ r inside. settled_bytes values cv settled (place r).0 (place r).1 is_prefix inside) (take synced all) ends)
 
   pub marker_sound : AllByRecursion (λ r. IsTrue (is_sound seal cv (place r))) (take marker rs)
   marker_sound = subst (AllByRecursion IsKept) (take-take marker synced rs marked) (all_take IsKept marker (take synced rs) synced_sound)
@@ -151,29 +151,29 @@ module _ (seal : List ℕ → ℕ) (place : List ℕ → ℕ × ℕ) (values cv 
       same : (r : List ℕ) → (IsKept r → WasThere contents cv (place r)) → IsKept r → IsSame r
       same r there is =
           let parts = sound_parts seal cv (place r).0 (place r).1 is in
-          there_bytes values cv (place r).0 (place r).1 parts.0 parts.1 contents fronts (there is)
+          there_bytes values cv (place r).0 (place r).1 parts.0 parts.1 contents prefixes (there is)
 
   abbrev kept_records : List (List ℕ)
-  kept_records = front is_kept marker 0 rs
+  kept_records = unbroken_prefix is_kept marker 0 rs
 
   entries_same : map (entry_of place cv) kept_records ≡ map (entry_of place values) kept_records
   entries_same = map-same (entry_of place cv) (entry_of place values) kept_records
       (all_by IsSame (λ r. entry_of place cv r ≡ entry_of place values r) (entry_same place values cv) kept_records
-      (front-all is_kept marker IsSame marker 0 rs (omega arith) marker_same sound_same))
+      (prefix-all is_kept marker IsSame marker 0 rs (omega arith) marker_same sound_same))
 
   kept_first : kept_records ≡ take (length kept_records) all
   kept_first =
-      let own : kept_records ≡ take (length kept_records) rs = front-take is_kept marker 0 rs in
+      let own : kept_records ≡ take (length kept_records) rs = prefix-take is_kept marker 0 rs in
       let less : length kept_records ≤ length rs = omega (arith, ap length own, length-take (length kept_records) rs) in
       own ∙ ap (take (length kept_records)) first ∙ take-take (length kept_records) (length rs) all less
 
-  pub kept_prefix : IsPrefix (map (entry_of place values) all) synced (map (entry_of place cv) (front (λ r. is_sound seal cv (place r)) marker 0 rs))
+  pub kept_prefix : IsPrefix (map (entry_of place values) all) synced (map (entry_of place cv) (unbroken_prefix (λ r. is_sound seal cv (place r)) marker 0 rs))
   kept_prefix =
       let long : length (map (entry_of place cv) kept_records) ≡ length kept_records = length-map kept_records (entry_of place cv) in
       record {
         same = entries_same ∙ ap (map (entry_of place values)) kept_first ∙ sym (take-map (entry_of place values) (length kept_records) all)
             ∙ ap (λ (k : ℕ). take k (map (entry_of place values) all)) (sym long);
-        synced = omega (arith, long, front-enough is_kept marker synced 0 rs enough synced_sound);
+        synced = omega (arith, long, prefix-enough is_kept marker synced 0 rs enough synced_sound);
       }
 
 -- Where a crash leaves a prefix of the index bytes that holds `synced` records, and of the values those that had settled, what is kept is a
@@ -184,22 +184,22 @@ pub kept_law : (seal : List ℕ → ℕ) (P size : ℕ) (place : List ℕ → �
     → AllByRecursion (λ r. IsTrue (is_sound seal values (place r))) (records size index)
     → end_of place 0 (take synced (records size index)) ≤ settled
     → Prefix seal P index least ci
-    → IsFront (take settled values) cv
-    → AllByRecursion (λ c. IsFront c values) contents
+    → IsPrefixOf (take settled values) cv
+    → AllByRecursion (λ c. IsPrefixOf c values) contents
     → AllByRecursion (λ r. IsTrue (is_sound seal cv (place r)) → WasThere contents cv (place r)) (records size (sealed_prefix seal P ci))
-    → IsPrefix (entries_of place size index values) synced (map (entry_of place cv) (front (λ r. is_sound seal cv (place r)) marker 0 (records size (sealed_prefix seal P ci))))
+    → IsPrefix (entries_of place size index values) synced (map (entry_of place cv) (unbroken_prefix (λ r. is_sound seal cv (place r)) marker 0 (records size (sealed_prefix seal P ci))))
     × ((marker ≤ length (records size (sealed_prefix seal P ci)))
     × (AllByRecursion (λ r. IsTrue (is_sound seal cv (place r))) (take marker (records size (sealed_prefix seal P ci)))
     × (records size (sealed_prefix seal P ci) ≡ take (length (records size (sealed_prefix seal P ci))) (records size index))))
-kept_law seal P size place index values synced least settled marker ci cv contents pos whole long marked follow sound reach prefix is_front fronts none =
+kept_law seal P size place index values synced least settled marker ci cv contents pos whole long marked follow sound reach prefix is_prefix prefixes none =
     let left : List ℕ = sealed_prefix seal P ci in
-    let first : records size left ≡ take (length (records size left)) (records size index) = records-front size index left pos prefix.is prefix.no_longer in
+    let first : records size left ≡ take (length (records size left)) (records size index) = records-prefix size index left pos prefix.is prefix.no_longer in
     let enough : synced ≤ length (records size left) = records-enough size synced left pos (omega (arith, long, prefix.no_shorter)) in (
-      kept_prefix seal place values cv (records size index) (records size left) (length values) synced settled marker contents marked enough first follow (omega arith) sound reach is_front fronts none,
+      kept_prefix seal place values cv (records size index) (records size left) (length values) synced settled marker contents marked enough first follow (omega arith) sound reach is_prefix prefixes none,
       (
         omega (arith, marked, enough),
         (
-          marker_sound seal place values cv (records size index) (records size left) (length values) synced settled marker contents marked enough first follow (omega arith) sound reach is_front fronts none,
+          marker_sound seal place values cv (records size index) (records size left) (length values) synced settled marker contents marked enough first follow (omega arith) sound reach is_prefix prefixes none,
           first,
         ),
       ),

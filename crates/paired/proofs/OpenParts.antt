@@ -18,7 +18,7 @@ use Rattle.section_manager.specs.Refusing.{HasFailed, IsForeign}
 use Rattle.section_manager.specs.Sections.{Sections, section_key, IsOver}
 use Rattle.section_manager.specs.Setting.{Setting}
 use Rattle.segments.specs.declared.fixed.preflighting.Target.{Target}
-use Rattle.segments.specs.FixedCheckpoint.{Finishes, Gives}
+use Rattle.segments.specs.FixedCheckpoint.{Finishes, GivesCheckpoint}
 use Rattle.segments.specs.FixedLists.{Lists}
 use Rattle.segments.specs.FixedFloors.{IsRefused}
 use Rattle.paired.specs.Kept.{Layout}
@@ -59,7 +59,7 @@ floor_given (Some n) floor size some none = some n refl
 -- where markers were checked, a journal is finished as it was opened
 pub given : {F S D : Type 0} {gs : _} (g : buffer.Ghosts (PageBlob S gs)) (gives : F → Setting) (seal : List ℕ → ℕ) (size : ℕ) (dev : device.Ghosts D)
     (j : Lists F (PageBlob S gs)) (result : Result (Lists F (PageBlob S gs)) Error) (old new : D) (target : Option Target) → target ≡ None
-    → Finishes g gives seal size dev j result old new target → Gives g gives seal size dev j result old new
+    → Finishes g gives seal size dev j result old new target → GivesCheckpoint g gives seal size dev j result old new
 given g gives seal size dev j result old new target none finishes = subst (Finishes g gives seal size dev j result old new) none finishes
 
 -- ---- refusals of the records

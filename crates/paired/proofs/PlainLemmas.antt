@@ -6,8 +6,8 @@ use Rattle.std.proofs.lemmas.Bool.{le-leb, lt-leb}
 use Rattle.std.proofs.lemmas.List.{append_assoc, append-nil, take-take, length-take}
 use Rattle.paired.specs.Frames.{bytes_at}
 use Rattle.segments.specs.FixedItems.{item_count, item_at}
-use Rattle.paired.specs.Records.{Entry, each_below, records, front, is_sound, entry_of}
-use Rattle.paired.specs.lemmas.Records.{front-take, front-enough, front-all}
+use Rattle.paired.specs.Records.{Entry, each_below, records, unbroken_prefix, is_sound, entry_of}
+use Rattle.paired.specs.lemmas.Records.{prefix-take, prefix-enough, prefix-all}
 use Rattle.blob_device.proofs.general.Lists.{all_take}
 
 drop-each_below : {X : Type 0} (k n : ℕ) (f : ℕ → X) → k < n → drop k (each_below n f) ≡ f k ∷ drop (k + 1) (each_below n f)
@@ -37,22 +37,22 @@ records-end size p bytes le = drop-past p (item_count size bytes) (item_at size 
 module _ (sound : List ℕ → Bool) (marker size : ℕ) (bytes : List ℕ) where
   -- what is kept of the records from a position on
   abbrev pub kept_from : ℕ → List (List ℕ)
-  kept_from p = front sound marker p (drop p (records size bytes))
+  kept_from p = unbroken_prefix sound marker p (drop p (records size bytes))
 
   -- the record there is kept, and those behind it that are
   pub kept-next : (p : ℕ) → p < item_count size bytes → (nat_lt p marker || sound (item_at size bytes p)) ≡ true → kept_from p ≡ item_at size bytes p ∷ kept_from (p + 1)
   kept-next p lt keeps =
-      ap (front sound marker p) (records-from size p bytes lt)
+      ap (unbroken_prefix sound marker p) (records-from size p bytes lt)
       ∙ ap (λ (b : Bool). if b then item_at size bytes p ∷ kept_from (p + 1) else []) keeps
 
   -- it is not, and then none is
   pub kept-stops : (p : ℕ) → p < item_count size bytes → (nat_lt p marker || sound (item_at size bytes p)) ≡ false → kept_from p ≡ []
   kept-stops p lt stops =
-      ap (front sound marker p) (records-from size p bytes lt)
+      ap (unbroken_prefix sound marker p) (records-from size p bytes lt)
       ∙ ap (λ (b : Bool). if b then item_at size bytes p ∷ kept_from (p + 1) else []) stops
 
   pub kept-ends : (p : ℕ) → item_count size bytes ≤ p → kept_from p ≡ []
-  kept-ends p le = ap (front sound marker p) (records-end size p bytes le)
+  kept-ends p le = ap (unbroken_prefix sound marker p) (records-end size p bytes le)
 
 -- A reading has come to a record: these are the bytes of the record, where its value stands, and whether it is kept.
 module _ (seal : List ℕ → ℕ) (place : List ℕ → ℕ × ℕ) (values : List ℕ) (marker size : ℕ) (bytes : List ℕ) (whole had : List Entry) (p : ℕ) where
@@ -94,20 +94,20 @@ module _ (sound : List ℕ → Bool) (rs : List (List ℕ)) where
   all_same (x ∷ xs) = (λ is. is, all_same xs)
 
   -- so many are kept exactly where there are so many, all of them sound
-  pub front-sound : (n : ℕ) → (n ≤ length (front sound 0 0 rs)) ↔ ((n ≤ length rs) × AllByRecursion (λ r. IsTrue (sound r)) (take n rs))
-  front-sound n = (λ le. (enough le, subst (AllByRecursion (λ r. IsTrue (sound r))) (firsts le) (all_take (λ r. IsTrue (sound r)) n (front sound 0 0 rs) all)), λ both. front-enough sound 0 n 0 rs both.0 both.1)
+  pub prefix-sound : (n : ℕ) → (n ≤ length (unbroken_prefix sound 0 0 rs)) ↔ ((n ≤ length rs) × AllByRecursion (λ r. IsTrue (sound r)) (take n rs))
+  prefix-sound n = (λ le. (enough le, subst (AllByRecursion (λ r. IsTrue (sound r))) (firsts le) (all_take (λ r. IsTrue (sound r)) n (unbroken_prefix sound 0 0 rs) all)), λ both. prefix-enough sound 0 n 0 rs both.0 both.1)
     where
-      all : AllByRecursion (λ r. IsTrue (sound r)) (front sound 0 0 rs)
-      all = front-all sound 0 (λ r. IsTrue (sound r)) 0 0 rs (omega arith) tt (all_same rs)
+      all : AllByRecursion (λ r. IsTrue (sound r)) (unbroken_prefix sound 0 0 rs)
+      all = prefix-all sound 0 (λ r. IsTrue (sound r)) 0 0 rs (omega arith) tt (all_same rs)
 
-      fewer : length (front sound 0 0 rs) ≤ length rs
-      fewer = omega (arith, ap (λ (xs : List (List ℕ)). length xs) (front-take sound 0 0 rs), length-take (length (front sound 0 0 rs)) rs)
+      fewer : length (unbroken_prefix sound 0 0 rs) ≤ length rs
+      fewer = omega (arith, ap (λ (xs : List (List ℕ)). length xs) (prefix-take sound 0 0 rs), length-take (length (unbroken_prefix sound 0 0 rs)) rs)
 
-      enough : n ≤ length (front sound 0 0 rs) → n ≤ length rs
+      enough : n ≤ length (unbroken_prefix sound 0 0 rs) → n ≤ length rs
       enough le = omega (arith, fewer, le)
 
-      firsts : n ≤ length (front sound 0 0 rs) → take n (front sound 0 0 rs) ≡ take n rs
-      firsts le = ap (take n) (front-take sound 0 0 rs) ∙ take-take n (length (front sound 0 0 rs)) rs le
+      firsts : n ≤ length (unbroken_prefix sound 0 0 rs) → take n (unbroken_prefix sound 0 0 rs) ≡ take n rs
+      firsts le = ap (take n) (prefix-take sound 0 0 rs) ∙ take-take n (length (unbroken_prefix sound 0 0 rs)) rs le
 
 module _ (seal : List ℕ → ℕ) (values : List ℕ) (at n : ℕ) where
   pub sound-short : n < 4 → is_sound seal values (at, n) ≡ false

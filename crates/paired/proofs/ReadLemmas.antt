@@ -21,7 +21,7 @@ use Rattle.blob_device.proofs.general.Options.{none_or_value, some_there}
 module _ (seal : List ℕ → ℕ) where
   -- a number behind some bytes, which is not their seal
   abbrev pub Ends : List ℕ → ℕ → ℕ → Type 0
-  Ends bytes stored computed = (stored ≢ computed) × (stored < 2 ^ 32) × ((front : List ℕ) × (computed ≡ seal front) × (bytes ≡ with_number front stored))
+  Ends bytes stored computed = (stored ≢ computed) × (stored < 2 ^ 32) × ((prefix : List ℕ) × (computed ≡ seal prefix) × (bytes ≡ with_number prefix stored))
 
   pub broken_at : (all bytes : List ℕ) (at n stored computed : ℕ) → at + n ≤ length all → bytes ≡ bytes_at all at n → Ends bytes stored computed → IsBroken seal all at n stored computed
   broken_at all bytes at n stored computed inside is ends = record {
@@ -35,18 +35,18 @@ module _ (seal : List ℕ → ℕ) where
 
   pub differ_so : (bytes : List ℕ) (n stored computed : ℕ) → length bytes ≡ n → Ends bytes stored computed → Differ seal n stored computed
   differ_so bytes n stored computed long ends = record {
-    front = ends.2.0;
+    prefix = ends.2.0;
     size = sym (frames.length-with_number ends.2.0 stored) ∙ ap length (sym ends.2.2) ∙ long;
     fits = ends.1;
     sealed = ends.2.1;
     differs = ends.0;
   }
 
-  pub frame_at : (all bytes front : List ℕ) (at n : ℕ) → at + n ≤ length all → bytes ≡ bytes_at all at n → bytes ≡ frame seal front → HasFrame seal all at n front
-  frame_at all bytes front at n inside is sealed = record { inside = inside; is = sym is ∙ sealed }
+  pub frame_at : (all bytes prefix : List ℕ) (at n : ℕ) → at + n ≤ length all → bytes ≡ bytes_at all at n → bytes ≡ frame seal prefix → HasFrame seal all at n prefix
+  frame_at all bytes prefix at n inside is sealed = record { inside = inside; is = sym is ∙ sealed }
 
-  pub same_front : (all bytes front spelled : List ℕ) (at n : ℕ) → bytes ≡ bytes_at all at n → bytes ≡ frame seal front → HasFrame seal all at n spelled → spelled ≡ front
-  same_front all bytes front spelled at n is sealed has = frames.one_front spelled front (seal spelled) (seal front) (sym has.is ∙ sym is ∙ sealed)
+  pub same_prefix : (all bytes prefix spelled : List ℕ) (at n : ℕ) → bytes ≡ bytes_at all at n → bytes ≡ frame seal prefix → HasFrame seal all at n spelled → spelled ≡ prefix
+  same_prefix all bytes prefix spelled at n is sealed has = frames.one_prefix spelled prefix (seal spelled) (seal prefix) (sym has.is ∙ sym is ∙ sealed)
 
   module _ {F : Type 0} (m : Sections F WriteBlob) (d : Disk) where
     -- no frame stands in a section that is not held
@@ -84,11 +84,11 @@ refused_so (Ok v) P refused why = absurd (cc refused)
 refused_so (Err e) P refused why = why
 
 -- a seal that is checked holds exactly where the bytes are sealed
-pub verdict : {T : Type 0} (r : Result T Error) (front_of : T → List ℕ) (seal : List ℕ → ℕ) → ((spelled : List ℕ) → seal spelled < 2 ^ 32) → (all bytes : List ℕ) (at n : ℕ) → at + n ≤ length all → bytes ≡ bytes_at all at n
-    → IfOk r (λ v. bytes ≡ frame seal (front_of v)) → ((stored computed : ℕ) → IsErrOf r (ChecksumMismatch stored computed) → Ends seal bytes stored computed) → OnErr r (IsMismatch r)
+pub verdict : {T : Type 0} (r : Result T Error) (prefix_of : T → List ℕ) (seal : List ℕ → ℕ) → ((spelled : List ℕ) → seal spelled < 2 ^ 32) → (all bytes : List ℕ) (at n : ℕ) → at + n ≤ length all → bytes ≡ bytes_at all at n
+    → IfOk r (λ v. bytes ≡ frame seal (prefix_of v)) → ((stored computed : ℕ) → IsErrOf r (ChecksumMismatch stored computed) → Ends seal bytes stored computed) → OnErr r (IsMismatch r)
     → IsTrue (is_ok r) ↔ IsSealed seal all at n
-verdict (Ok v) front_of seal fits all bytes at n inside is sealed broken why = (λ yes. (front_of v, frame_at seal all bytes (front_of v) at n inside is sealed), λ yes. refl)
-verdict (Err e) front_of seal fits all bytes at n inside is sealed broken why = (
+verdict (Ok v) prefix_of seal fits all bytes at n inside is sealed broken why = (λ yes. (prefix_of v, frame_at seal all bytes (prefix_of v) at n inside is sealed), λ yes. refl)
+verdict (Err e) prefix_of seal fits all bytes at n inside is sealed broken why = (
   λ yes. absurd (cc yes),
   λ yes. absurd (frames.not_broken seal fits all at n why.0 why.1 (broken_at seal all bytes at n why.0 why.1 inside is (broken why.0 why.1 why.2)) yes),
 )

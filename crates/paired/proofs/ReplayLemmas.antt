@@ -17,16 +17,16 @@ use Rattle.value_codec.specs.declared.key.Key8.{Key8}
 use Rattle.paired.specs.glob.Sections as glob
 use Rattle.paired.specs.Kept.{marker_of}
 use Rattle.paired.specs.Places.{last_end}
-use Rattle.paired.specs.Records.{each_below, records, front, is_sound}
+use Rattle.paired.specs.Records.{each_below, records, unbroken_prefix, is_sound}
 use Rattle.paired.specs.Replaying.{Run, marker, HasFailed, HasGiven, is_sound_over, records_over, records_given, IsDue, IsUnbroken, IsGood, IsEnd, IsChecked, GivesRecord, LosesRecords, Sorts}
-use Rattle.paired.proofs.opening.Ends.{front_stops}
+use Rattle.paired.proofs.opening.Ends.{prefix_stops}
 use Rattle.paired.specs.lemmas.Records.{last_end_at, records-take, length-records}
 use Rattle.blob_device.proofs.general.Options.{none_or_value, some_same}
 
 below : (m n : ℕ) → m < n → nat_lt m n ≡ true
 below m n lt = grind (arith, nat_tests)
 
--- ---- how far the front goes
+-- ---- how far the prefix goes
 module _ (sound : List ℕ → Bool) (m : ℕ) where
   good_test : (position : ℕ) (r : List ℕ) → (position + 0 < m) ⊎ IsTrue (sound r) → (nat_lt position m || sound r) ≡ true
   good_test position r (inl lt) = or_left (nat_lt position m) (sound r) (below position m (omega (arith, lt)))
@@ -42,38 +42,38 @@ module _ (sound : List ℕ → Bool) (m : ℕ) where
   longer true r tail n is lt = omega (arith, lt)
   longer false r tail n is lt = absurd (cc is)
 
-  front_reaches_from : (position p : ℕ) (rs : List (List ℕ)) → p < length rs → ((q : ℕ) → q ≤ p → (position + q < m) ⊎ IsTrue (sound (get_or rs q []))) → p < length (front sound m position rs)
-  front_reaches_from position p [] lt good = absurd (omega (arith, lt))
-  front_reaches_from position zero (r ∷ rs) lt good = longer (nat_lt position m || sound r) r (front sound m (position + 1) rs) 0 (good_test position r (good 0 (omega arith))) (omega arith)
-  front_reaches_from position (suc p) (r ∷ rs) lt good =
-      longer (nat_lt position m || sound r) r (front sound m (position + 1) rs) (suc p) (good_test position r (good 0 (omega arith)))
-      (omega (arith, front_reaches_from (position + 1) p rs (omega (arith, lt)) (λ q le. next q (good (suc q) (omega (arith, le))))))
+  prefix_reaches_from : (position p : ℕ) (rs : List (List ℕ)) → p < length rs → ((q : ℕ) → q ≤ p → (position + q < m) ⊎ IsTrue (sound (get_or rs q []))) → p < length (unbroken_prefix sound m position rs)
+  prefix_reaches_from position p [] lt good = absurd (omega (arith, lt))
+  prefix_reaches_from position zero (r ∷ rs) lt good = longer (nat_lt position m || sound r) r (unbroken_prefix sound m (position + 1) rs) 0 (good_test position r (good 0 (omega arith))) (omega arith)
+  prefix_reaches_from position (suc p) (r ∷ rs) lt good =
+      longer (nat_lt position m || sound r) r (unbroken_prefix sound m (position + 1) rs) (suc p) (good_test position r (good 0 (omega arith)))
+      (omega (arith, prefix_reaches_from (position + 1) p rs (omega (arith, lt)) (λ q le. next q (good (suc q) (omega (arith, le))))))
     where
       next : (q : ℕ) → (position + suc q < m) ⊎ IsTrue (sound (get_or rs q [])) → (position + 1 + q < m) ⊎ IsTrue (sound (get_or rs q []))
       next q (inl lt) = inl (omega (arith, lt))
       next q (inr is) = inr is
 
   -- it goes past a record where that and all before it are good
-  pub front_reaches : (p : ℕ) (rs : List (List ℕ)) → p < length rs → ((q : ℕ) → q ≤ p → (q < m) ⊎ IsTrue (sound (get_or rs q []))) → p < length (front sound m 0 rs)
-  front_reaches p rs lt good = front_reaches_from 0 p rs lt (λ q le. from_zero q (good q le))
+  pub prefix_reaches : (p : ℕ) (rs : List (List ℕ)) → p < length rs → ((q : ℕ) → q ≤ p → (q < m) ⊎ IsTrue (sound (get_or rs q []))) → p < length (unbroken_prefix sound m 0 rs)
+  prefix_reaches p rs lt good = prefix_reaches_from 0 p rs lt (λ q le. from_zero q (good q le))
     where
       from_zero : (q : ℕ) → (q < m) ⊎ IsTrue (sound (get_or rs q [])) → (0 + q < m) ⊎ IsTrue (sound (get_or rs q []))
       from_zero q (inl lt) = inl (omega (arith, lt))
       from_zero q (inr is) = inr is
 
-  abbrev IsFrontAt : ℕ → ℕ → List (List ℕ) → List (List ℕ) → Type 0
-  IsFrontAt position p rs kept = (p < length rs) × (get_or kept p [] ≡ get_or rs p []) × ((position + p < m) ⊎ IsTrue (sound (get_or rs p [])))
+  abbrev IsPrefixAt : ℕ → ℕ → List (List ℕ) → List (List ℕ) → Type 0
+  IsPrefixAt position p rs kept = (p < length rs) × (get_or kept p [] ≡ get_or rs p []) × ((position + p < m) ⊎ IsTrue (sound (get_or rs p [])))
 
-  front_good_from : (position p : ℕ) (rs : List (List ℕ)) → p < length (front sound m position rs) → IsFrontAt position p rs (front sound m position rs)
-  front_good_from position p [] lt = absurd (omega (arith, lt))
-  front_good_from position zero (r ∷ rs) lt = step (nat_lt position m || sound r) (front sound m (position + 1) rs) refl lt
+  prefix_good_from : (position p : ℕ) (rs : List (List ℕ)) → p < length (unbroken_prefix sound m position rs) → IsPrefixAt position p rs (unbroken_prefix sound m position rs)
+  prefix_good_from position p [] lt = absurd (omega (arith, lt))
+  prefix_good_from position zero (r ∷ rs) lt = step (nat_lt position m || sound r) (unbroken_prefix sound m (position + 1) rs) refl lt
     where
-      step : (b : Bool) (tail : List (List ℕ)) → (nat_lt position m || sound r) ≡ b → 0 < length (if b then r ∷ tail else []) → IsFrontAt position 0 (r ∷ rs) (if b then r ∷ tail else [])
+      step : (b : Bool) (tail : List (List ℕ)) → (nat_lt position m || sound r) ≡ b → 0 < length (if b then r ∷ tail else []) → IsPrefixAt position 0 (r ∷ rs) (if b then r ∷ tail else [])
       step true tail is lt = (omega arith, refl, test_good position r is)
       step false tail is lt = absurd (omega (arith, lt))
-  front_good_from position (suc p) (r ∷ rs) lt = step (nat_lt position m || sound r) (front sound m (position + 1) rs) lt (front_good_from (position + 1) p rs)
+  prefix_good_from position (suc p) (r ∷ rs) lt = step (nat_lt position m || sound r) (unbroken_prefix sound m (position + 1) rs) lt (prefix_good_from (position + 1) p rs)
     where
-      step : (b : Bool) (tail : List (List ℕ)) → suc p < length (if b then r ∷ tail else []) → (p < length tail → IsFrontAt (position + 1) p rs tail) → IsFrontAt position (suc p) (r ∷ rs) (if b then r ∷ tail else [])
+      step : (b : Bool) (tail : List (List ℕ)) → suc p < length (if b then r ∷ tail else []) → (p < length tail → IsPrefixAt (position + 1) p rs tail) → IsPrefixAt position (suc p) (r ∷ rs) (if b then r ∷ tail else [])
       step true tail lt rest = (let is = rest (omega (arith, lt)) in (omega (arith, is.0), is.1, next is.2))
         where
           next : (position + 1 + p < m) ⊎ IsTrue (sound (get_or rs p [])) → (position + suc p < m) ⊎ IsTrue (sound (get_or rs p []))
@@ -82,8 +82,8 @@ module _ (sound : List ℕ → Bool) (m : ℕ) where
       step false tail lt rest = absurd (omega (arith, lt))
 
   -- and then these are good
-  pub front_good : (p : ℕ) (rs : List (List ℕ)) → p < length (front sound m 0 rs) → (p < length rs) × (get_or (front sound m 0 rs) p [] ≡ get_or rs p []) × ((p < m) ⊎ IsTrue (sound (get_or rs p [])))
-  front_good p rs lt = (let is = front_good_from 0 p rs lt in (is.0, is.1, from_zero is.2))
+  pub prefix_good : (p : ℕ) (rs : List (List ℕ)) → p < length (unbroken_prefix sound m 0 rs) → (p < length rs) × (get_or (unbroken_prefix sound m 0 rs) p [] ≡ get_or rs p []) × ((p < m) ⊎ IsTrue (sound (get_or rs p [])))
+  prefix_good p rs lt = (let is = prefix_good_from 0 p rs lt in (is.0, is.1, from_zero is.2))
     where
       from_zero : (0 + p < m) ⊎ IsTrue (sound (get_or rs p [])) → (p < m) ⊎ IsTrue (sound (get_or rs p []))
       from_zero (inl lt) = inl (omega (arith, lt))
@@ -156,17 +156,17 @@ module _ {F S : Type 0} {gs : _} (seal : List ℕ → ℕ) (size : ℕ) (w : Wal
   left_held left = kept_some (w.journal.unrecovered t) (w.journal.sections.held t) (e (key_of w.journal.sections t)).content left.whole
 
 module _ {F S : Type 0} {gs : _} (run : Run F (PageBlob S gs)) (d : Disk) where
-  opening_given : run.tracked ≡ true → (s : ℕ) → records_given run d s ≡ front (is_sound_over run d s) (marker run s) 0 (records_over run d s)
-  opening_given is s = ap (λ (b : Bool). cond b (front (is_sound_over run d s) (marker run s) 0 (records_over run d s)) (records_over run d s)) is
+  opening_given : run.tracked ≡ true → (s : ℕ) → records_given run d s ≡ unbroken_prefix (is_sound_over run d s) (marker run s) 0 (records_over run d s)
+  opening_given is s = ap (λ (b : Bool). cond b (unbroken_prefix (is_sound_over run d s) (marker run s) 0 (records_over run d s)) (records_over run d s)) is
 
   live_given : run.tracked ≡ false → (s : ℕ) → records_given run d s ≡ records_over run d s
-  live_given is s = ap (λ (b : Bool). cond b (front (is_sound_over run d s) (marker run s) 0 (records_over run d s)) (records_over run d s)) is
+  live_given is s = ap (λ (b : Bool). cond b (unbroken_prefix (is_sound_over run d s) (marker run s) 0 (records_over run d s)) (records_over run d s)) is
 
   -- what is given stands where it stood
   pub given_at : (s p : ℕ) → p < length (records_given run d s) → get_or (records_given run d s) p [] ≡ get_or (records_over run d s) p []
   given_at s p lt = elim (cases_Bool run.tracked) [
     | inl is ↦ ap (λ (rs : List (List ℕ)). get_or rs p []) (opening_given is s)
-        ∙ (front_good (is_sound_over run d s) (marker run s) p (records_over run d s) (subst (λ (rs : List (List ℕ)). p < length rs) (opening_given is s) lt)).1
+        ∙ (prefix_good (is_sound_over run d s) (marker run s) p (records_over run d s) (subst (λ (rs : List (List ℕ)). p < length rs) (opening_given is s) lt)).1
     | inr is ↦ ap (λ (rs : List (List ℕ)). get_or rs p []) (live_given is s)
   ]
 
@@ -177,8 +177,8 @@ module _ {F S : Type 0} {gs : _} (run : Run F (PageBlob S gs)) (d : Disk) where
   -- where a section has an end, what is given stops there
   end_stops : run.tracked ≡ true → (s r : ℕ) → IsEnd run d s r → length (records_given run d s) ≤ r
   end_stops is s r end =
-      let stop : front (is_sound_over run d s) (marker run s) 0 (records_over run d s) ≡ take r (records_over run d s) =
-      front_stops (is_sound_over run d s) (marker run s) 0 r (records_over run d s) (omega (arith, end.within)) (λ q lt. from_zero q (end.good q lt)) (inr (omega (arith, end.from), end.fails)) in
+      let stop : unbroken_prefix (is_sound_over run d s) (marker run s) 0 (records_over run d s) ≡ take r (records_over run d s) =
+      prefix_stops (is_sound_over run d s) (marker run s) 0 r (records_over run d s) (omega (arith, end.within)) (λ q lt. from_zero q (end.good q lt)) (inr (omega (arith, end.from), end.fails)) in
       omega (arith, ap length (opening_given is s), ap length stop, length-take r (records_over run d s))
     where
       from_zero : (q : ℕ) → (q < marker run s) ⊎ IsTrue (is_sound_over run d s (get_or (records_over run d s) q [])) → (0 + q < marker run s) ⊎ IsTrue (is_sound_over run d s (get_or (records_over run d s) q []))
@@ -210,7 +210,7 @@ module _ {F S : Type 0} {gs : _} (old new : Run F (PageBlob S gs)) (w : Walk F (
 
   -- what is given of a section with the same records
   pub given_stay : (s : ℕ) → records_over new e s ≡ records_over old d s → records_given new e s ≡ records_given old d s
-  given_stay s same = λ i. cond (turn.tracked i) (front (sound_stay s i) (marker_stay s i) 0 (same i)) (same i)
+  given_stay s same = λ i. cond (turn.tracked i) (unbroken_prefix (sound_stay s i) (marker_stay s i) 0 (same i)) (same i)
 
   module _ (s : ℕ) (same : records_over new e s ≡ records_over old d s) where
     good_same : (p : ℕ) → IsGood new e s p ≡ IsGood old d s p
@@ -432,7 +432,7 @@ module _ {F S : Type 0} {gs : _} (old new : Run F (PageBlob S gs)) (w : Walk F (
                   given = omega (
                     arith,
                     ap length (opening_given old d tracked s),
-                    front_reaches (is_sound_over old d s) (marker old s) p (records_over old d s) (left_within old d s p gives.left) (λ q le. elim (cases_lt q p) [
+                    prefix_reaches (is_sound_over old d s) (marker old s) p (records_over old d s) (left_within old d s p gives.left) (λ q le. elim (cases_lt q p) [
                       | inl lt ↦ good_before (checked tracked) says.0 says.1 q lt
                       | inr ge ↦ (let same : p ≡ q = omega (arith, le, ge) in subst (IsGood old d s) same (good_now says.2))
                     ]),
@@ -444,7 +444,7 @@ module _ {F S : Type 0} {gs : _} (old new : Run F (PageBlob S gs)) (w : Walk F (
       -- one that is skipped was not due
       not_due : (Kept → ⊥) → old.tracked ≡ true → IsChecked old d → IsDue old d s p → ⊥
       not_due skipped tracked checked due = elim (none_or_value (old.ends.at s)) [
-        | inl none ↦ skipped (sorts.kept.1 (inr (due.goes_on, none, good_was (front_good (is_sound_over old d s) (marker old s) p (records_over old d s) (omega (arith, ap length (opening_given old d tracked s), due.given))).2)))
+        | inl none ↦ skipped (sorts.kept.1 (inr (due.goes_on, none, good_was (prefix_good (is_sound_over old d s) (marker old s) p (records_over old d s) (omega (arith, ap length (opening_given old d tracked s), due.given))).2)))
         | inr some ↦ absurd (omega (arith, due.given, checked.behind s some.0 p some.1 due.left, end_stops old d tracked s some.0 (checked.ends s some.0 (inr (due.goes_on, (p, due.left))) some.1)))
       ]
 
@@ -508,7 +508,7 @@ module _ {F S : Type 0} {gs : _} (old new : Run F (PageBlob S gs)) (w : Walk F (
           begun = omega (arith, gives.left.begun);
           whole = omega (
             arith,
-            (front_good (is_sound_over old d s) (marker old s) (p + 1) (records_over old d s) (omega (arith, ap length (opening_given old d tracked s), lt))).0,
+            (prefix_good (is_sound_over old d s) (marker old s) (p + 1) (records_over old d s) (omega (arith, ap length (opening_given old d tracked s), lt))).0,
             length-records old.layout.record_size (kept_bytes old.layout.seal old.layout.record_size old.walk d s),
           );
           ahead = elim gives.left.ahead [ inl far ↦ inl far | inr in_it ↦ inr (further s p old.walk.place in_it) ];

@@ -26,7 +26,7 @@ use Rattle.segments.proofs.adding.WriteLemmas.{ArePages}
 use Rattle.paired.specs.Crashes.{IsIndexOf, NoChanceSeal}
 use Rattle.paired.specs.Kept.{Layout, Markers, marker_of, content_at, stored_records, is_sound_in}
 use Rattle.paired.specs.Opening.{MayBeOpened, RecallsAlone}
-use Rattle.paired.specs.Records.{records, is_sound, front, entry_of}
+use Rattle.paired.specs.Records.{records, is_sound, unbroken_prefix, entry_of}
 use Rattle.paired.specs.Replaying.{Run, pair_of, IsRun, IsOpeningRun}
 use Rattle.paired.proofs.GlobLemmas.{buffers}
 use Rattle.paired.proofs.opening.Ends.{KeptHere}
@@ -78,7 +78,7 @@ kept_as l old image markers s there records_same values =
     let sound_same : is_sound_in l image s ≡ is_sound_in l old s = (λ i r. is_sound l.seal (values i) (l.place r)) in
     record {
       stored = records_same ∙ sym (take_all (length (stored_records l image s)) (stored_records l old s) (omega (arith, ap length records_same)));
-      kept = (λ i. map (entry_of l.place (values i)) (front (sound_same i) (marker_of markers.entries s) 0 (records_same i)));
+      kept = (λ i. map (entry_of l.place (values i)) (unbroken_prefix (sound_same i) (marker_of markers.entries s) 0 (records_same i)));
       marked = λ m is was. record {
         index_blob = there was.index_blob;
         enough = omega (arith, ap length records_same, was.enough);

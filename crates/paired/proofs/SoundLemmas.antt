@@ -22,11 +22,11 @@ module _ (seal : List ℕ → ℕ) (fits : (spelled : List ℕ) → seal spelled
       (ap seal spells.0 ∙ sym (from_be_bytes-to_be_bytes_4 (seal spelled) (fits spelled)) ∙ ap (from_be_bytes w32) (sym spells.1))
 
   -- a seal that is checked holds exactly where the bytes are sound
-  pub sound_verdict : {T : Type 0} (r : Result T Error) (front_of : T → List ℕ) (all bytes : List ℕ) (at n : ℕ) → at + n ≤ length all → bytes ≡ bytes_at all at n
-      → IfOk r (λ v. bytes ≡ frame seal (front_of v)) → ((stored computed : ℕ) → IsErrOf r (ChecksumMismatch stored computed) → Ends seal bytes stored computed) → OnErr r (IsMismatch r)
+  pub sound_verdict : {T : Type 0} (r : Result T Error) (prefix_of : T → List ℕ) (all bytes : List ℕ) (at n : ℕ) → at + n ≤ length all → bytes ≡ bytes_at all at n
+      → IfOk r (λ v. bytes ≡ frame seal (prefix_of v)) → ((stored computed : ℕ) → IsErrOf r (ChecksumMismatch stored computed) → Ends seal bytes stored computed) → OnErr r (IsMismatch r)
       → IsTrue (is_ok r) ↔ IsTrue (is_sound seal all (at, n))
-  sound_verdict (Ok v) front_of all bytes at n inside is sealed broken why = (λ yes. sound_sealed all at n (front_of v, frame_at seal all bytes (front_of v) at n inside is sealed), λ yes. refl)
-  sound_verdict (Err e) front_of all bytes at n inside is sealed broken why = (
+  sound_verdict (Ok v) prefix_of all bytes at n inside is sealed broken why = (λ yes. sound_sealed all at n (prefix_of v, frame_at seal all bytes (prefix_of v) at n inside is sealed), λ yes. refl)
+  sound_verdict (Err e) prefix_of all bytes at n inside is sealed broken why = (
     λ yes. absurd (cc yes),
     λ sound. absurd (sound_unbroken seal all at n why.0 why.1 sound (broken_at seal all bytes at n why.0 why.1 inside is (broken why.0 why.1 why.2))),
   )

@@ -18,8 +18,8 @@ use Rattle.section_manager.specs.Lasting.{Syncing, Cutting, Truncating, IsLonger
 use Rattle.section_manager.specs.unsealed.Buffer.{Stands, IsWhole, MayKeep, content_of, count_of, is_unsettled}
 use Rattle.section_manager.specs.unsealed.Laws.{all_settled, rested, found_again}
 use Rattle.paired.specs.glob.Lasting as lasting
-use Rattle.paired.specs.glob.Sections.{section_bytes, HadFronts, HasSettled, IsAllSettled, IsGlob}
-use Rattle.paired.proofs.GlobLemmas.{buffers, idle_takes, idle_behind, idle_whole, rested_fronts, Serves, idle_serves, outlasts_of, held_bytes, has_settled, glob_of, serves_of}
+use Rattle.paired.specs.glob.Sections.{section_bytes, HadPrefixes, HasSettled, IsAllSettled, IsGlob}
+use Rattle.paired.proofs.GlobLemmas.{buffers, idle_takes, idle_behind, idle_whole, rested_prefixes, Serves, idle_serves, outlasts_of, held_bytes, has_settled, glob_of, serves_of}
 use Rattle.blob_device.proofs.general.Options.{has_value, none_or_value}
 
 pub of_some : {T : Type 0} (o : Option T) (P : T → Type 0) (v : T) → o ≡ Some v → IsSomeAnd o P → P v
@@ -35,7 +35,7 @@ module _ {told : Type 0} (u v : WriteBlob) (x y : Blob) where
     ends = before.ends;
     behind = before.behind;
     whole = λ t. subst (IsWhole u) (sym (blob t)) (before.whole t);
-    fronts = λ t. subst (λ (b : Blob). HadFronts (content_of u b.content) b) (sym (blob t)) (before.fronts t);
+    prefixes = λ t. subst (λ (b : Blob). HadPrefixes (content_of u b.content) b) (sym (blob t)) (before.prefixes t);
   })
 
   pub step_synced : IsSynced buffers told u v x y → Steps told u v x y
@@ -43,7 +43,7 @@ module _ {told : Type 0} (u v : WriteBlob) (x y : Blob) where
     ends = idle_takes v synced.done;
     behind = idle_behind v synced.done;
     whole = λ t. synced.whole t (before.whole t);
-    fronts = λ t. rested_fronts v y (synced.rests t) (synced.again t (before.whole t));
+    prefixes = λ t. rested_prefixes v y (synced.rests t) (synced.again t (before.whole t));
   }
 
   pub step_cut : (n : ℕ) → IsCut buffers told n u v x y → Steps told u v x y
@@ -52,7 +52,7 @@ module _ {told : Type 0} (u v : WriteBlob) (x y : Blob) where
       ends = idle_takes v (cut.done longer);
       behind = idle_behind v (cut.done longer);
       whole = λ t. cut.whole t (before.whole t);
-      fronts = λ t. rested_fronts v y (cut.rests t longer) (cut.again t longer);
+      prefixes = λ t. rested_prefixes v y (cut.rests t longer) (cut.again t longer);
     }
     | inr within ↦ step_same (cut.same within) (λ t. cut.stays t within) before
   ]

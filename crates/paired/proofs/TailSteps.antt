@@ -17,16 +17,16 @@ use Rattle.section_manager.specs.lemmas.Keys.{key_injective}
 use Rattle.segments.specs.FixedBounds.{CuttingTail}
 use Rattle.segments.specs.FixedLists.{Lists}
 use Rattle.section_manager.proofs.buffers.NothingSealed.{nothing_sealed}
-use Rattle.section_manager.proofs.buffers.UnsealedCalls.{front_itself}
+use Rattle.section_manager.proofs.buffers.UnsealedCalls.{prefix_itself}
 use Rattle.value_codec.specs.declared.key.Key8.{Key8}
 use Rattle.meta_store.proofs.Uses.{IsReadable}
 use Rattle.meta_store.specs.Store.{Store}
 use Rattle.paired.specs.Crashes.{IsIndexOf, NoChanceSeal}
 use Rattle.paired.specs.Kept.{Layout, Markers, IsMarked, marker_of, content_at, stored_records, is_sound_in}
-use Rattle.paired.specs.Opening.{as_read, Front, MayBeOpened, RecallsBy}
+use Rattle.paired.specs.Opening.{as_read, APrefix, MayBeOpened, RecallsBy}
 use Rattle.paired.specs.Pair.{AreApart}
-use Rattle.paired.specs.Records.{records, entry_of, front}
-use Rattle.paired.proofs.opening.Ends.{front_order, cut_front}
+use Rattle.paired.specs.Records.{records, entry_of, unbroken_prefix}
+use Rattle.paired.proofs.opening.Ends.{prefix_order, cut_prefix}
 use Rattle.paired.proofs.opening.Laws.{left_as_read}
 use Rattle.paired.proofs.opening.Phases.{IsPhase, IsCut, IsDropped, IsUnmarkedAt, cut_or_dropped_by}
 use Rattle.paired.proofs.pair.Blobs.{again}
@@ -88,7 +88,7 @@ module _ {told : Type 0} {l : Layout} {u : Store Key8 ℕ} (section p : ℕ) (a 
       values_now : (s : ℕ) → s < 2 ^ 64 → (left : Option (List ℕ)) → MayLeave (d (section_key l.values s)) left → unwrap_or left [] ≡ content_at (as_read (disk a)) l.values s
       values_now s small left may = values s small left (subst (λ (x : Blob). MayLeave x left) (values_same s) may)
 
-      dropped : (s : ℕ) → s < 2 ^ 64 → section < s → IsDropped l apart (disk a) d (changed b) false phase Front (marker_of u.entries s) s
+      dropped : (s : ℕ) → s < 2 ^ 64 → section < s → IsDropped l apart (disk a) d (changed b) false phase APrefix (marker_of u.entries s) s
       dropped s small later = record {
         allowed = refl;
         index = λ left may. elim (going_left (disk a (section_key l.index s)) (d (section_key l.index s)) (settled s small later) (cuts.later s small later) left may) [
@@ -102,8 +102,8 @@ module _ {told : Type 0} {l : Layout} {u : Store Key8 ℕ} (section p : ℕ) (a 
       bare s small later image old markers crash back lawful m is =
           unmarked s m later (subst (λ (ms : Markers). IsMarked ms.entries s m) (same_markers marks t map_readable apart d (changed b) phase image old markers crash back lawful) is)
 
-      recall : ((s : ℕ) → s < 2 ^ 64 → s ≡ section → IsTrue (changed b s) → IsCut l apart (disk a) d (changed b) false phase Front (marker_of u.entries s) s) → RecallsBy l Front (disk a) d
-      recall here = cut_or_dropped_by l apart (disk a) d (changed b) false phase Front front_order refl some (λ s. marker_of u.entries s) (has_markers marks t map_readable apart d (changed b) phase)
+      recall : ((s : ℕ) → s < 2 ^ 64 → s ≡ section → IsTrue (changed b s) → IsCut l apart (disk a) d (changed b) false phase APrefix (marker_of u.entries s) s) → RecallsBy l APrefix (disk a) d
+      recall here = cut_or_dropped_by l apart (disk a) d (changed b) false phase APrefix prefix_order refl some (λ s. marker_of u.entries s) (has_markers marks t map_readable apart d (changed b) phase)
           (λ s small is. elim (cases_lt section s) [
             | inl later ↦ inr (dropped s small later, bare s small later)
             | inr not ↦ inl (here s small (omega (arith, from_changed b s is, not)) is)
@@ -123,26 +123,26 @@ module _ {told : Type 0} {l : Layout} {u : Store Key8 ℕ} (section p : ℕ) (a 
     cut_only q none = cuts.others q (λ is. none (is.0, is.1, le-leb section is.0 is.2, is.3))
 
     cut_here : pages.Leaves l.seal l.page_size (sealed_prefix l.seal l.page_size (content_at (as_read (disk a)) l.index section)) (p * l.record_size) (d (section_key l.index section))
-        → (s : ℕ) → s < 2 ^ 64 → s ≡ section → IsCut l apart (disk a) d (changed true) false (phase true cut_only) Front (marker_of u.entries s) s
+        → (s : ℕ) → s < 2 ^ 64 → s ≡ section → IsCut l apart (disk a) d (changed true) false (phase true cut_only) APrefix (marker_of u.entries s) s
     cut_here leaves s small is = record {
       p = p;
       high = subst (λ (x : ℕ). marker_of u.entries x ≤ p) (sym is) high;
-      fronts = λ k le few. cut_front (entry_of l.place (content_at (as_read (disk a)) l.values s)) (is_sound_in l (as_read (disk a)) s) (marker_of u.entries s) (stored_records l (as_read (disk a)) s) s k;
+      prefixes = λ k le few. cut_prefix (entry_of l.place (content_at (as_read (disk a)) l.values s)) (is_sound_in l (as_read (disk a)) s) (marker_of u.entries s) (stored_records l (as_read (disk a)) s) s k;
       leaves = subst (λ (x : ℕ). pages.Leaves l.seal l.page_size (sealed_prefix l.seal l.page_size (content_at (as_read (disk a)) l.index x)) (p * l.record_size) (d (section_key l.index x))) (sym is) leaves;
       values = values_now true cut_only s small;
     }
 
-    tail_recalls : RecallsBy l Front (disk a) d
+    tail_recalls : RecallsBy l APrefix (disk a) d
     tail_recalls = elim cuts.cut [
       | inl same ↦ recall false (later_only same) (λ s small is less. absurd (omega (arith, is, ltb-true section s less)))
       | inr leaves ↦ recall true cut_only (λ s small is less. cut_here leaves s small is)
     ]
 
   -- ---- the step
-  pub tail_step : (b : Timeline) → Always a b (CutsTail l section p (disk a)) → Step l Front (MayBeOpened l (disk a)) (IsIndexOf l (λ s. section ≤ s)) a b
+  pub tail_step : (b : Timeline) → Always a b (CutsTail l section p (disk a)) → Step l APrefix (MayBeOpened l (disk a)) (IsIndexOf l (λ s. section ≤ s)) a b
   tail_step b moments = record {
     only = always_weaker a b (CutsTail l section p (disk a)) (λ d. (q : Key) → (IsIndexOf l (λ s. section ≤ s) q → ⊥) → d q ≡ disk a q) (λ d cuts. cuts.others) moments;
-    recalls = λ may. always_weaker a b (CutsTail l section p (disk a)) (RecallsBy l Front (disk a)) (tail_recalls may.no_chance) moments;
+    recalls = λ may. always_weaker a b (CutsTail l section p (disk a)) (RecallsBy l APrefix (disk a)) (tail_recalls may.no_chance) moments;
   }
 
 -- ---- what the cut of a journal says of it
@@ -191,8 +191,8 @@ module _ {F S : Type 0} {gs : _} (l : Layout) (j : Lists F (PageBlob S gs)) (sec
             let sealed_now : List ℕ = sealed_prefix l.seal l.page_size (content_at (as_read from) l.index section) in
             let content : content_at (as_read from) l.index section ≡ (from (section_key l.index section)).content =
             ap (λ (o : Option (List ℕ)). unwrap_or o []) (reads_there (from (section_key l.index section)) (there (ap is_some held))) in
-            let front = cutting.front u held (owed u held longer) in
-            let keyed = subst (λ (k : Key). pages.Leaves l.seal u.page_size (sealed_prefix l.seal u.page_size (from k).content) (min n (length (sealed_prefix l.seal u.page_size (from k).content))) (d k)) (here_key section) front in
+            let prefix = cutting.prefix u held (owed u held longer) in
+            let keyed = subst (λ (k : Key). pages.Leaves l.seal u.page_size (sealed_prefix l.seal u.page_size (from k).content) (min n (length (sealed_prefix l.seal u.page_size (from k).content))) (d k)) (here_key section) prefix in
             let sized = subst (λ (P : ℕ). pages.Leaves l.seal P (sealed_prefix l.seal P (from (section_key l.index section)).content) (min n (length (sealed_prefix l.seal P (from (section_key l.index section)).content))) (d (section_key l.index section))) (paged u held) keyed in
             let read = subst (λ (c : List ℕ). pages.Leaves l.seal l.page_size (sealed_prefix l.seal l.page_size c) (min n (length (sealed_prefix l.seal l.page_size c))) (d (section_key l.index section))) (sym content) sized in
-            leaves_more l.seal l.page_size sealed_now sealed_now (min n (length sealed_now)) (p * l.record_size) (d (section_key l.index section)) (front_itself sealed_now) (omega (arith, is, sealed)) read
+            leaves_more l.seal l.page_size sealed_now sealed_now (min n (length sealed_now)) (p * l.record_size) (d (section_key l.index section)) (prefix_itself sealed_now) (omega (arith, is, sealed)) read

@@ -37,7 +37,7 @@ pub bounds_any : (l : Layout) (u : Store Key8 ℕ) (ends : ℕ → Option ℕ) (
 bounds_any l u ends d none small = record {
   order = any_order;
   from = λ s p is. (small s p is, omega (arith, unmarked_zero u.entries s (λ m marked. none_marked (contents_of u) none s m marked)));
-  fronts = λ s p fits is k le few. tt;
+  prefixes = λ s p fits is k le few. tt;
 }
 
 pub unmarked_records_step : {F S : Type 0} {gs : _} {g : buffer.Ghosts (PageBlob S gs)} {gives : F → Setting} {takes : WriteFactory → Setting} {told : Type 0} {l : Layout} {i : Sections F (PageBlob S gs)} {m : Sections WriteFactory WriteBlob} {u : Store Key8 ℕ} {ends : ℕ → Option ℕ} {o : OpenedList}

@@ -35,8 +35,8 @@ module _ (seal : List ℕ → ℕ) where
 
   -- A number, and the seal of the bytes before it, which differ; n bytes in all.
   pub record Differ (n stored computed : ℕ) : Type 0 where
-    pub front : List ℕ
-    pub size : length front + 4 ≡ n
+    pub prefix : List ℕ
+    pub size : length prefix + 4 ≡ n
     pub fits : stored < 2 ^ 32
-    pub sealed : computed ≡ seal front
+    pub sealed : computed ≡ seal prefix
     pub differs : stored ≢ computed

@@ -6,7 +6,7 @@ use Rattle.meta_store.specs.Crashes as metadata
 use Rattle.sealed_pages.specs.ChanceSeal as pages
 use Rattle.sealed_pages.specs.SealedPrefix.{sealed_prefix, Prefix}
 use Rattle.section_manager.specs.Sections.{section_key}
-use Rattle.section_manager.specs.Fronts.{IsFront}
+use Rattle.section_manager.specs.Prefixes.{IsPrefixOf}
 use Rattle.paired.specs.Places.{Follow, end_of}
 use Rattle.paired.specs.Records.{Entry, records, entries_of, is_sound}
 use Rattle.paired.specs.Kept.{Layout, Markers, HasNoFloor, IsMarked}
@@ -49,11 +49,11 @@ module _ (l : Layout) where
   abbrev pub LeavesNoRecords : Blob → Type 0
   LeavesNoRecords b = (c : List ℕ) → MayLeave b (Some c) → pages.NoChanceSeal l.seal l.page_size (past b) c → records l.record_size (sealed_prefix l.seal l.page_size c) ≡ []
 
-  -- Each crash leaves what has settled of the values at the blob's front, a blob that is not there having no bytes. Where a crash may leave the
-  -- blob at all, each content that it had is a front of the values.
+  -- Each crash leaves what has settled of the values at the blob's start, a blob that is not there having no bytes. Where a crash may leave the
+  -- blob at all, each content that it had is a prefix of the values.
   pub record ValuesStand (f : Facts) (b : Blob) : Type 0 where
-    pub kept : (left : Option (List ℕ)) → MayLeave b left → IsFront (take f.values_settled f.values) (unwrap_or left [])
-    pub fronts : (left : Option (List ℕ)) → MayLeave b left → AllByRecursion (λ c. IsFront c f.values) (past b)
+    pub kept : (left : Option (List ℕ)) → MayLeave b left → IsPrefixOf (take f.values_settled f.values) (unwrap_or left [])
+    pub prefixes : (left : Option (List ℕ)) → MayLeave b left → AllByRecursion (λ c. IsPrefixOf c f.values) (past b)
 
   -- how the two blobs of a section stand: its values count only where a record may be left
   pub record SectionStands (Gone : Type 0) (f : Facts) (index_blob value_blob : Blob) : Type 0 where

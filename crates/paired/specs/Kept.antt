@@ -11,7 +11,7 @@ use Rattle.meta_store.specs.Format.{Format}
 use Rattle.value_codec.specs.Keys.{key8_bytes}
 use Rattle.sealed_pages.specs.SealedPrefix.{sealed_prefix}
 use Rattle.section_manager.specs.Sections.{section_key}
-use Rattle.paired.specs.Records.{Entry, records, is_sound, front, entry_of}
+use Rattle.paired.specs.Records.{Entry, records, is_sound, unbroken_prefix, entry_of}
 
 -- which sections have which markers, ascending by the bytes of the section's number
 abbrev pub MarkerMap : Type 0
@@ -69,7 +69,7 @@ module _ (l : Layout) (image : Image) where
 
   -- what the image keeps of a section, whose marker is this
   abbrev pub kept : ℕ → ℕ → List Entry
-  kept marker s = map (entry_of l.place (content_at image l.values s)) (front (is_sound_in s) marker 0 (stored_records s))
+  kept marker s = map (entry_of l.place (content_at image l.values s)) (unbroken_prefix (is_sound_in s) marker 0 (stored_records s))
 
   -- what it keeps of a section by these markers
   abbrev pub kept_by : Markers → ℕ → List Entry

@@ -1,6 +1,6 @@
 -- What this layer means to the layers above: a glob is a map from sections, by number, to lists of bytes, in which frames stand by place
 -- (`Frames`, `glob/Sections`). A frame is a value's spelling with its seal behind it. What a crash at any moment of a call leaves of the
--- sections' blobs is said in the bytes that had settled, and in the contents since, which are all fronts of a section's bytes
+-- sections' blobs is said in the bytes that had settled, and in the contents since, which are all prefixes of a section's bytes
 -- (`glob/Lasting`).
 pub mod CodecShown
 pub mod Crashes

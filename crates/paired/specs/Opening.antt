@@ -32,8 +32,8 @@ abbrev pub Same : Relation
 Same s found list = found ≡ list
 
 -- the first entries of it
-abbrev pub Front : Relation
-Front s found list = found ≡ take (length found) list
+abbrev pub APrefix : Relation
+APrefix s found list = found ≡ take (length found) list
 
 -- whatever it is: of the records that are stored alone is then something said
 abbrev pub Any : Relation
@@ -41,7 +41,7 @@ Any s found list = ⊤
 
 -- just that of a section before this one, the first entries of another, and of this one at least so many
 pub record IsUpTo (section least s : ℕ) (found list : List Entry) : Type 0 where
-  pub front : found ≡ take (length found) list
+  pub prefix : found ≡ take (length found) list
   pub before : s < section → found ≡ list
   pub here : s ≡ section → min least (length list) ≤ length found
 

@@ -5,7 +5,7 @@ use Rattle.blob_device.specs.Disk.{Image, NothingPending}
 use Rattle.blob_device.specs.Timeline.{Timeline, disk, Always}
 use Rattle.paired.specs.Kept.{Layout, Markers, marker_of, stored_records, is_sound_in, kept_by}
 use Rattle.paired.specs.Opening.{as_read, IsLawful, Relation, KeepsAllBy}
-use Rattle.paired.specs.Records.{Entry, front}
+use Rattle.paired.specs.Records.{Entry, unbroken_prefix}
 
 -- ---- bounds
 -- one of the records is sound
@@ -48,12 +48,12 @@ module _ (l : Layout) where
   -- by markers: those below the marker, and behind them those up to the first whose value is not sound
   abbrev pub tracked : Wanted
   tracked image markers s =
-      front (is_sound_in l image s) (marker_of markers.entries s) 0 (stored_records l image s)
+      unbroken_prefix (is_sound_in l image s) (marker_of markers.entries s) 0 (stored_records l image s)
 
   -- so within a bound, to which the markers are lowered
   abbrev pub tracked_at_most : ℕ → ℕ → Wanted
   tracked_at_most section n image markers s =
-      front (is_sound_in l image s) (lowered section n s (marker_of markers.entries s)) 0
+      unbroken_prefix (is_sound_in l image s) (lowered section n s (marker_of markers.entries s)) 0
       (within section n s (stored_records l image s))
 
   -- it keeps the first records of each section

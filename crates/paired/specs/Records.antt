@@ -20,10 +20,10 @@ is_sound seal values (at, n) =
     && (seal (bytes_at values at (n - 4)) == from_be_bytes w32 (bytes_at values (at + (n - 4)) 4))
 
 -- of the records from this position on, the longest prefix in which each at or above the marker is sound
-abbrev pub front : (List ℕ → Bool) → ℕ → ℕ → List (List ℕ) → List (List ℕ)
-front sound marker position [] = []
-front sound marker position (r ∷ rs) =
-    if nat_lt position marker || sound r then r ∷ front sound marker (position + 1) rs else []
+abbrev pub unbroken_prefix : (List ℕ → Bool) → ℕ → ℕ → List (List ℕ) → List (List ℕ)
+unbroken_prefix sound marker position [] = []
+unbroken_prefix sound marker position (r ∷ rs) =
+    if nat_lt position marker || sound r then r ∷ unbroken_prefix sound marker (position + 1) rs else []
 
 -- a record's bytes, and the spelling of its value
 pub record Entry : Type 0 where

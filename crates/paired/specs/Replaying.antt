@@ -21,7 +21,7 @@ use Rattle.paired.specs.Kept.{Layout, IsMarked, IsSameLayout, marker_of}
 use Rattle.paired.specs.Pair.{Pair, AreApart, AreMarkers, AreWhole, HasSettled}
 use Rattle.paired.specs.Places.{last_end}
 use Rattle.paired.specs.OpeningRefusing.{place_end}
-use Rattle.paired.specs.Records.{Entry, records, is_sound, front, entry_of}
+use Rattle.paired.specs.Records.{Entry, records, is_sound, unbroken_prefix, entry_of}
 
 -- How far an opening keeps the sections that it has gone over: of each in which a value failed, the
 -- position of its record; and of each of which a record is kept, where the last one's value ends, as far
@@ -97,7 +97,7 @@ module _ {F S : Type 0} {gs : _} (run : Run F (PageBlob S gs)) where
 
     -- those of them that are given: an opening gives them up to the first one at or above the marker whose value fails
     abbrev pub records_given : ℕ → List (List ℕ)
-    records_given s = cond run.tracked (front (is_sound_over s) (marker s) 0 (records_over s)) (records_over s)
+    records_given s = cond run.tracked (unbroken_prefix (is_sound_over s) (marker s) 0 (records_over s)) (records_over s)
 
     -- the same, with their values
     abbrev pub entries_given : ℕ → List Entry

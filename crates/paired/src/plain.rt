@@ -6,7 +6,7 @@ ghost use Rattle.std.specs.List.{AllByRecursion};
 ghost use Rattle.sealed_pages.specs.SealedPrefix.{sealed_prefix};
 ghost use Rattle.segments.specs.FixedItems.{item_count, item_at};
 ghost use Rattle.paired.specs.Frames.{bytes_at};
-ghost use Rattle.paired.specs.Records.{records, is_sound, front, entry_of};
+ghost use Rattle.paired.specs.Records.{records, is_sound, unbroken_prefix, entry_of};
 
 use crate::Record;
 use crate::glob::u32_in;
@@ -139,7 +139,7 @@ pub fn kept<I: Record, S: Seal>(
     values: &[u8],
     marker: u64,
 ) -> Result<Vec<Found>, Error>
-    ensures { IfOk result (λ r. r.items ≡ map (entry_of I.place values.now) (front (λ b. is_sound S.seal_of values.now (I.place b)) marker 0 (records I.SIZE (sealed_prefix S.seal_of page_size index.now)))) }
+    ensures { IfOk result (λ r. r.items ≡ map (entry_of I.place values.now) (unbroken_prefix (λ b. is_sound S.seal_of values.now (I.place b)) marker 0 (records I.SIZE (sealed_prefix S.seal_of page_size index.now)))) }
 {
     let sealed = sealed_prefix::<S>(alloc, page_size, index)?;
     let sealed = sealed.as_slice();

@@ -138,9 +138,9 @@ pub fn order_of(alloc: Global, step: &Step) -> Result<Order, Error>
 fn name_all(named: &mut Named, step: &Step) -> Result<(), AllocError> {
     let mut is_behind = false;
     for word in step.rest() {
-        let (front, size) = word.as_str().split_once(":").unwrap_or((word.as_str(), ""));
-        let section = front.parse::<u64>().unwrap_or(0);
-        if front == "/" {
+        let (prefix, size) = word.as_str().split_once(":").unwrap_or((word.as_str(), ""));
+        let section = prefix.parse::<u64>().unwrap_or(0);
+        if prefix == "/" {
             is_behind = true;
         } else if !size.is_empty() {
             named

@@ -48,9 +48,9 @@ pushed r xs ys x ok is = is ∙ ap (λ (b : Bool). cond b (xs ++ x ∷ []) xs) o
 
 -- ---- numbers that are apart
 
-front_of : (P : ℕ → Type 0) (xs : List ℕ) (x : ℕ) → AllByRecursion P (xs ++ x ∷ []) → AllByRecursion P xs × P x
-front_of P [] x all = (tt, all.0)
-front_of P (y ∷ ys) x all = (let rest = front_of P ys x all.1 in ((all.0, rest.0), rest.1))
+prefix_of : (P : ℕ → Type 0) (xs : List ℕ) (x : ℕ) → AllByRecursion P (xs ++ x ∷ []) → AllByRecursion P xs × P x
+prefix_of P [] x all = (tt, all.0)
+prefix_of P (y ∷ ys) x all = (let rest = prefix_of P ys x all.1 in ((all.0, rest.0), rest.1))
 
 with_last : (P : ℕ → Type 0) (xs : List ℕ) (x : ℕ) → AllByRecursion P xs → P x → AllByRecursion P (xs ++ x ∷ [])
 with_last P [] x all is = (is, tt)
@@ -62,7 +62,7 @@ unfolding IsDistinct
 apart_last [] x distinct = (tt, λ has. omega (arith, has.1))
 apart_last (y ∷ ys) x distinct =
     let rest = apart_last ys x distinct.1 in
-    let first = front_of (λ k. nat_eq y k ≡ false) ys x distinct.0 in
+    let first = prefix_of (λ k. nat_eq y k ≡ false) ys x distinct.0 in
     ((first.0, rest.0), none first.1 rest.1)
   where
     none : nat_eq y x ≡ false → (Contains ys x → ⊥) → Contains (y ∷ ys) x → ⊥
@@ -112,7 +112,7 @@ module _ (section x : ℕ) (old new : Slots) (slots : AreSlots old) where
 
     free_yet : (y : ℕ) → y ≢ x → Contains old.free.items y → Contains new.free.items y
     free_yet y other has = elim (Contains-push_cases new.free.items x y (subst (λ (xs : List ℕ). Contains xs y) free has)) as (λ _. Contains new.free.items y) [
-      | inl front ↦ front
+      | inl prefix ↦ prefix
       | inr last ↦ absurd (other (sym last))
     ]
 

@@ -76,7 +76,7 @@ fn reads(trial: &Trial<'_>, piece: usize, whole: &Outcome) -> Result<String, Sto
     ok(trial.alloc)
 }
 
-// Where a write fails, a front was written, and the commands were carried out as ever.
+// Where a write fails, a prefix was written, and the commands were carried out as ever.
 fn writes(trial: &Trial<'_>, piece: usize, whole: &Outcome, calls: u64) -> Result<String, Stop> {
     let writes = whole.written.len().div_ceil(piece.max(1)) as u64;
     for nth in 0..writes.saturating_add(2) {
@@ -85,11 +85,11 @@ fn writes(trial: &Trial<'_>, piece: usize, whole: &Outcome, calls: u64) -> Resul
         call.piece = piece;
         call.failing_write = Some(nth);
         let run = outcome_of(trial.alloc, &call, &mut dev)?;
-        let front = (nth as usize).saturating_mul(piece);
+        let prefix = (nth as usize).saturating_mul(piece);
         let is_right = if nth < writes {
             run.ended.status == 4
                 && run.served_same(whole)
-                && Some(run.written.as_bytes()) == whole.written.as_bytes().get(..front)
+                && Some(run.written.as_bytes()) == whole.written.as_bytes().get(..prefix)
         } else {
             run.is_same(whole)
         };

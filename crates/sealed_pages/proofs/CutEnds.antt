@@ -20,13 +20,13 @@ use Rattle.sealed_pages.specs.Flushing.{Alone, Data, Ready}
 use Rattle.sealed_pages.specs.SealedPrefix.{adopted_size}
 use Rattle.sealed_pages.specs.SlotNames.{is_b}
 use Rattle.sealed_pages.specs.Slots.{page_length}
-use Rattle.sealed_pages.specs.Unrecovered.{blob_of, prefix_of, SparesFront}
+use Rattle.sealed_pages.specs.Unrecovered.{blob_of, prefix_of, SparesPrefix}
 use Rattle.sealed_pages.specs.View.{page_at, view, StandsAt}
 use Rattle.sealed_pages.proofs.cutting.Cuts.{resized_take}
 use Rattle.sealed_pages.proofs.cutting.Calls.{sealing_less}
 use Rattle.sealed_pages.proofs.cutting.Entries.{few_then}
 use Rattle.sealed_pages.proofs.cutting.Steps.{settled_rest}
-use Rattle.sealed_pages.proofs.Fronts.{front_look, front_then}
+use Rattle.sealed_pages.proofs.Prefixes.{prefix_look, prefix_then}
 use Rattle.sealed_pages.proofs.looking.Looking.{unchanged_now}
 use Rattle.sealed_pages.proofs.slots.PageCalls.{alone_start}
 use Rattle.sealed_pages.proofs.cutting.Shortening.{shorter_at, shorter_within, cut_covers}
@@ -64,7 +64,7 @@ module _ {D : Type 0} (dev : device.Ghosts D) (seal : List ℕ → ℕ) (u : Buf
       rests = λ t. tt;
       same = tt;
       alone = cut.alone;
-      front = cut.front;
+      prefix = cut.prefix;
       shorter = λ t. tt;
       «length» = tt;
       entries = cut.entries;
@@ -101,7 +101,7 @@ module _ {D : Type 0} (dev : device.Ghosts D) (seal : List ℕ → ℕ) (u : Buf
         rests = λ t. settled_rest (blob_of u (dev.time new)) _ (at_cut.settles t);
         same = subst (λ (x : Buffer). x ≡ ended_with u x.end page [] x.newest) (sym is_ended) refl;
         alone = at_cut.alone;
-        front = at_cut.front;
+        prefix = at_cut.prefix;
         shorter = λ t. omega (arith, ap (λ (b : Blob). adopted_size seal u.page_size b.content) (at_cut.settles t), shorter_at seal u.page_size (blob_of u (dev.time old)).content page);
         «length» = subst (λ (n : ℕ). IsOpenAt (dev.opened new) (key_of u) n) (sym (ap (λ (x : Buffer). x.end) is_ended ∙ ends)) at_cut.«length»;
         entries = at_cut.entries;
@@ -136,7 +136,7 @@ module _ {D : Type 0} (dev : device.Ghosts D) (seal : List ℕ → ℕ) (u : Buf
       same = tt;
       long = tt;
       alone = λ t. look_alone seal u.page_size pos (key_of u) (dev.time old) (dev.time mid) (read.unchanged t) (dev.time mid) (alone_start (dev.time mid) (key_of u));
-      front = λ t. front_look (page_at u.page_size page) (key_of u) (dev.time old) (dev.time mid) (read.unchanged t);
+      prefix = λ t. prefix_look (page_at u.page_size page) (key_of u) (dev.time old) (dev.time mid) (read.unchanged t);
       shorter = λ t. tt;
       «length» = tt;
       entries = read.entries;
@@ -175,8 +175,8 @@ module _ {D : Type 0} (dev : device.Ghosts D) (seal : List ℕ → ℕ) (u : Buf
       within_alone : (r : Result ℕ DevError) → Cut r → dev.Tells → Alone (key_of u) (dev.time old) (dev.time new)
       within_alone r cut t = look_alone seal u.page_size pos (key_of u) (dev.time old) (dev.time mid) (read.unchanged t) (dev.time new) (cut.alone t)
 
-      within_front : (r : Result ℕ DevError) → Cut r → dev.Tells → SparesFront (page_at u.page_size page) (key_of u) (dev.time old) (dev.time new)
-      within_front r cut t = front_then (page_at u.page_size page) (key_of u) (dev.time old) (dev.time mid) (dev.time new) (front_look (page_at u.page_size page) (key_of u) (dev.time old) (dev.time mid) (read.unchanged t)) (cut.front t)
+      within_prefix : (r : Result ℕ DevError) → Cut r → dev.Tells → SparesPrefix (page_at u.page_size page) (key_of u) (dev.time old) (dev.time new)
+      within_prefix r cut t = prefix_then (page_at u.page_size page) (key_of u) (dev.time old) (dev.time mid) (dev.time new) (prefix_look (page_at u.page_size page) (key_of u) (dev.time old) (dev.time mid) (read.unchanged t)) (cut.prefix t)
 
       within_entries : (r : Result ℕ DevError) → Cut r → FewReads 1 (key_of u) (dev.opened old) (dev.opened new)
       within_entries r cut = few_then 1 (key_of u) (dev.opened old) (dev.opened mid) (dev.opened new) read.entries cut.entries
@@ -197,7 +197,7 @@ module _ {D : Type 0} (dev : device.Ghosts D) (seal : List ℕ → ℕ) (u : Buf
             same = tt;
             long = tt;
             alone = within_alone (Err e) cut;
-            front = within_front (Err e) cut;
+            prefix = within_prefix (Err e) cut;
             shorter = λ t. tt;
             «length» = tt;
             entries = within_entries (Err e) cut;
@@ -258,7 +258,7 @@ module _ {D : Type 0} (dev : device.Ghosts D) (seal : List ℕ → ℕ) (u : Buf
           same = subst (λ (x : Buffer). x ≡ ended_with u x.end page x.tip x.newest) (sym is_within) refl;
           long = ap (λ (x : Buffer). length x.tip) is_within ∙ read.long;
           alone = within_alone (Ok end) done_cut;
-          front = within_front (Ok end) done_cut;
+          prefix = within_prefix (Ok end) done_cut;
           shorter = λ t. omega (arith, ap (λ (b : Blob). adopted_size seal u.page_size b.content) (settles t), shorter_within seal u.page_size (blob_of u (dev.time old)).content page (is_b h.slot) h.bytes.items long_small, to_keep);
           «length» = subst (λ (m : ℕ). IsOpenAt (dev.opened new) (key_of u) m) (sym (ap (λ (x : Buffer). x.end) is_within)) done_cut.«length»;
           entries = within_entries (Ok end) done_cut;

@@ -11,12 +11,12 @@ use Rattle.sealed_pages.specs.Entries.{IsOpenAt, NoReads}
 use Rattle.sealed_pages.specs.Flushes.{Repairs, WritesTip, Flushes}
 use Rattle.sealed_pages.specs.Flushing.{Data, Wrote}
 use Rattle.sealed_pages.specs.Leftover.{Leftover, ClearsFirst}
-use Rattle.sealed_pages.specs.Unrecovered.{blob_of, SparesFront}
+use Rattle.sealed_pages.specs.Unrecovered.{blob_of, SparesPrefix}
 use Rattle.sealed_pages.specs.View.{view, page_at, StandsAt}
 use Rattle.sealed_pages.proofs.memory.CacheLemmas.{cached_none, cached_by}
 use Rattle.sealed_pages.proofs.adopted.Clearing.{clears_start, clears_then}
 use Rattle.sealed_pages.specs.lemmas.Entries.{no_reads_start, no_reads_then, open_some}
-use Rattle.sealed_pages.proofs.Fronts.{front_start, front_then, front_now}
+use Rattle.sealed_pages.proofs.Prefixes.{prefix_start, prefix_then, prefix_now}
 use Rattle.sealed_pages.proofs.memory.Holding.{holds_start, tip_stands, bytes_length}
 use Rattle.sealed_pages.proofs.memory.MemoryLemmas.{memory_flushed}
 use Rattle.sealed_pages.proofs.slots.PageCalls.{alone_start, alone_then}
@@ -37,7 +37,7 @@ module _ {D : Type 0} (dev : device.Ghosts D) (seal : List ℕ → ℕ) {B : Typ
     };
     steady = λ t un. stood_keeps seal (see v) (key_of (see v)) (dev.time old) un;
     unrecovered = λ t un. un;
-    front = λ t. front_start (page_at (see v).page_size (see v).first) (key_of (see v)) (dev.time old);
+    prefix = λ t. prefix_start (page_at (see v).page_size (see v).first) (key_of (see v)) (dev.time old);
     clears = λ t rest left. clears_start seal (see v).page_size (see v).first (see v).from (see v).newest (key_of (see v)) (dev.time old) rest;
     left = inl none;
     backed = λ t backed. backed;
@@ -66,9 +66,9 @@ module _ {D : Type 0} (dev : device.Ghosts D) (seal : List ℕ → ℕ) {B : Typ
       told = repair.told;
       done = λ t all holds. tt;
       wrote = λ t all same at. record { alone = (repair.wrote t all same).alone; done = tt };
-      steady = λ t un. spared_keeps seal u (key_of u) (dev.time old) (dev.time mid) un u.first un.below (repair.front t);
+      steady = λ t un. spared_keeps seal u (key_of u) (dev.time old) (dev.time mid) un u.first un.below (repair.prefix t);
       unrecovered = λ t un. tt;
-      front = repair.front;
+      prefix = repair.prefix;
       clears = λ t rest left. repair.clears t rest;
       left = tt;
       backed = λ t backed. tt;
@@ -110,8 +110,8 @@ module _ {D : Type 0} (dev : device.Ghosts D) (seal : List ℕ → ℕ) {B : Typ
             let second = write.wrote t all first.done at in
             record { alone = alone_then (dev.time old) (dev.time mid) (dev.time new) (key_of u) first.alone second.alone; done = second.done }
 
-        front_both : dev.Tells → SparesFront (page_at u.page_size u.first) (key_of u) (dev.time old) (dev.time new)
-        front_both t = front_then (page_at u.page_size u.first) (key_of u) (dev.time old) (dev.time mid) (dev.time new) (repair.front t) (write.front t)
+        prefix_both : dev.Tells → SparesPrefix (page_at u.page_size u.first) (key_of u) (dev.time old) (dev.time new)
+        prefix_both t = prefix_then (page_at u.page_size u.first) (key_of u) (dev.time old) (dev.time mid) (dev.time new) (repair.prefix t) (write.prefix t)
 
         clears_both : dev.Tells → IsAtRest (blob_of u (dev.time old)) → Leftover seal u.page_size (blob_of u (dev.time old)).content u.first u.from u.newest u.behind u.torn
             → Always (dev.time old) (dev.time new) (OnlyAt (key_of u) (disk (dev.time old)) (ClearsFirst seal u.page_size u.first u.from u.newest))
@@ -125,9 +125,9 @@ module _ {D : Type 0} (dev : device.Ghosts D) (seal : List ℕ → ℕ) {B : Typ
         told = told_both (Err e) write;
         done = λ t all holds. tt;
         wrote = wrote_both (Err e) write;
-        steady = λ t un. spared_keeps seal u (key_of u) (dev.time old) (dev.time new) un u.first un.below (front_both (Err e) write t);
+        steady = λ t un. spared_keeps seal u (key_of u) (dev.time old) (dev.time new) un u.first un.below (prefix_both (Err e) write t);
         unrecovered = λ t un. tt;
-        front = front_both (Err e) write;
+        prefix = prefix_both (Err e) write;
         clears = clears_both (Err e) write;
         left = tt;
         backed = λ t backed. tt;
@@ -152,16 +152,16 @@ module _ {D : Type 0} (dev : device.Ghosts D) (seal : List ℕ → ℕ) {B : Typ
         told = told_both (Ok v) write;
         done = λ t all holds. write.done t all (held t all holds);
         wrote = wrote_both (Ok v) write;
-        steady = λ t un. spared_keeps seal u (key_of u) (dev.time old) (dev.time new) un u.first un.below (front_both (Ok v) write t);
+        steady = λ t un. spared_keeps seal u (key_of u) (dev.time old) (dev.time new) un u.first un.below (prefix_both (Ok v) write t);
         unrecovered = λ t un.
             let page : (see v).page_size ≡ u.page_size = ap (λ (x : Buffer). x.page_size) write.into.same in
             let short : length (see v).tip < (see v).page_size = omega (arith, begun v, ap (λ (x : Buffer). x.from) write.into.same) in
             let later = first_later u.page_size u.first (see v).first (length u.tip) (length (see v).tip) (omega (arith, write.into.size, ap (λ (n : ℕ). (see v).first * n) page)) (omega (arith, short, page)) in
             let own : (see v).settled ≡ u.settled = ap (λ (x : Buffer). x.settled) write.into.same in
             let unsettled : u.settled < size_of u = omega (arith, order, some) in
-            spared_stays seal u (key_of u) (dev.time old) (dev.time new) un u.first un.below (front_both (Ok v) write t) (see v) page (omega (arith, un.below, later)) (omega (arith, un.settled, own)) (backed_now t un.backed)
+            spared_stays seal u (key_of u) (dev.time old) (dev.time new) un u.first un.below (prefix_both (Ok v) write t) (see v) page (omega (arith, un.below, later)) (omega (arith, un.settled, own)) (backed_now t un.backed)
             (λ settled. absurd (omega (arith, settled, write.into.size, unsettled, own))) (write.had t (repair.had t un.had));
-        front = front_both (Ok v) write;
+        prefix = prefix_both (Ok v) write;
         clears = clears_both (Ok v) write;
         left = inr (ap has_leftover write.into.same);
         backed = backed_now;
@@ -187,7 +187,7 @@ module _ {D : Type 0} (dev : device.Ghosts D) (seal : List ℕ → ℕ) {B : Typ
           backed_now t backed =
               let all : List ℕ = bytes_of u (blob_of u (dev.time old)).content in
               let at = tip_stands u (blob_of u (dev.time old)).content in
-              memory_flushed seal u cleared (see v) (blob_of u (dev.time old)) (blob_of u (dev.time new)) all refl refl refl refl (begun v) write.into (front_now _ _ _ _ (front_both (Ok v) write t)) full
+              memory_flushed seal u cleared (see v) (blob_of u (dev.time old)) (blob_of u (dev.time new)) all refl refl refl refl (begun v) write.into (prefix_now _ _ _ _ (prefix_both (Ok v) write t)) full
               (wrote_both (Ok v) write t all backed.flushed at).done (bytes_length u (blob_of u (dev.time old)).content) at (write.covers t all (repair.wrote t all backed.flushed).done at some) backed.cache
 
       pub flush_written : (r : Result B DevError) → WritesTip dev seal (see w) mid new see r → AreFull u.page_size u.first u.cache → u.settled ≤ flushed_of u → ((v : B) → (see v).from < (see v).page_size) → Flushes dev seal u old new see r

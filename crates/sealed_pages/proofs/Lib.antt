@@ -11,7 +11,7 @@ pub mod Reaching
 pub mod cutting
 pub mod WriteLemmas
 pub mod PlainLemmas
-pub mod Fronts
+pub mod Prefixes
 pub mod UnrecoveredLemmas
 pub mod OpenedReads
 pub mod Replaying

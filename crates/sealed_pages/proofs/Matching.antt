@@ -3,7 +3,7 @@ use Rattle.std.proofs.Common.{◌≡◌, ◌≢◌, ◌+◌, ◌<◌, ◌^◌, �
 use Rattle.std.specs.Int.{w16, w32, from_be_bytes}
 use Rattle.sealed_pages.specs.View.{view, bytes_at, page_at, slot_at}
 use Rattle.sealed_pages.specs.Slots.{named_length, named_seal, computed_seal, slot_length}
-use Rattle.sealed_pages.proofs.looking.Looking.{page_zero, slot_short, slot_long, slot_right, slot_wrong, two_at, four_at, front_at}
+use Rattle.sealed_pages.proofs.looking.Looking.{page_zero, slot_short, slot_long, slot_right, slot_wrong, two_at, four_at, prefix_at}
 use Rattle.sealed_pages.proofs.slots.Steps.{slot_low}
 
 module _ (seal : List ℕ → ℕ) (P : ℕ) (page : List ℕ) (b : Bool) (at : ℕ) (is : at ≡ slot_at P 0 b) where
@@ -35,7 +35,7 @@ module _ (seal : List ℕ → ℕ) (P : ℕ) (page : List ℕ) (b : Bool) (at : 
       two = ap (λ (a : ℕ). bytes_at (view page) a 2) (sym is) ∙ two_at page at
 
       covered : bytes_at (view page) (page_at P 0) (named_length (view page) (slot_at P 0 b)) ≡ take n page
-      covered = ap (bytes_at (view page) (page_at P 0)) named ∙ front_at P n page (omega (arith, short, stands, is, page_zero P, slot_low P 0 b))
+      covered = ap (bytes_at (view page) (page_at P 0)) named ∙ prefix_at P n page (omega (arith, short, stands, is, page_zero P, slot_low P 0 b))
 
       made_as : computed_seal seal P (view page) (page_at P 0) (slot_at P 0 b) (named_length (view page) (slot_at P 0 b)) ≡ made
       made_as = (λ t. seal (two t ++ covered t)) ∙ sym made_is

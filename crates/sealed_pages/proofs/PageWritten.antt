@@ -12,12 +12,12 @@ use Rattle.sealed_pages.specs.Flushing.{Ready, next_slot}
 use Rattle.sealed_pages.specs.Leftover.{SettlesNothing}
 use Rattle.sealed_pages.specs.PageWrites.{WritesPage}
 use Rattle.sealed_pages.specs.Slots.{slot_bytes}
-use Rattle.sealed_pages.specs.Unrecovered.{SparesFront}
+use Rattle.sealed_pages.specs.Unrecovered.{SparesPrefix}
 use Rattle.sealed_pages.specs.View.{page_at, slot_at, StandsAt}
 use Rattle.sealed_pages.proofs.adopted.Clearing.{settles_start, settles_write}
 use Rattle.sealed_pages.proofs.slots.CoverLemmas.{page_covers}
 use Rattle.sealed_pages.specs.lemmas.Entries.{no_reads_then, no_reads_open}
-use Rattle.sealed_pages.proofs.Fronts.{front_start, front_write}
+use Rattle.sealed_pages.proofs.Prefixes.{prefix_start, prefix_write}
 use Rattle.sealed_pages.proofs.HadLemmas.{had_write}
 use Rattle.sealed_pages.proofs.slots.PageCalls.{Begun, page_one, page_two, page_ready, page_leaves, alone_start, alone_on, page_wrote}
 use Rattle.sealed_pages.proofs.slots.Steps.{slot_low}
@@ -29,8 +29,8 @@ module _ {D : Type 0} (dev : device.Ghosts D) (seal : List ℕ → ℕ) (P : ℕ
       → Begun seal P all F L newest blob (dev.time old) page from bytes second
   begun all F L newest ready is at pick = record { seal_fits = fits; small = small; ready = ready; is = is; new = new; size = size; places = room; at = at; pick = pick }
 
-  data_front : {r : Result (Unit {0}) DevError} → Passes {T = Unit {0}} blob (Write (page_at P page + from) (drop from bytes)) r (dev.time old) (dev.time mid) → SparesFront (page_at P page) blob (dev.time old) (dev.time mid)
-  data_front passes = front_write (page_at P page) blob (dev.time old) (dev.time old) (dev.time mid) _ _ _ (omega arith) (front_start (page_at P page) blob (dev.time old)) passes
+  data_prefix : {r : Result (Unit {0}) DevError} → Passes {T = Unit {0}} blob (Write (page_at P page + from) (drop from bytes)) r (dev.time old) (dev.time mid) → SparesPrefix (page_at P page) blob (dev.time old) (dev.time mid)
+  data_prefix passes = prefix_write (page_at P page) blob (dev.time old) (dev.time old) (dev.time mid) _ _ _ (omega arith) (prefix_start (page_at P page) blob (dev.time old)) passes
 
   data_stays : {r : Result (Unit {0}) DevError} → Passes {T = Unit {0}} blob (Write (page_at P page + from) (drop from bytes)) r (dev.time old) (dev.time mid) → SettlesNothing blob (dev.time old) (dev.time mid)
   data_stays passes = settles_write blob (dev.time old) (dev.time old) (dev.time mid) _ _ _ (settles_start blob (dev.time old)) passes
@@ -45,7 +45,7 @@ module _ {D : Type 0} (dev : device.Ghosts D) (seal : List ℕ → ℕ) (P : ℕ
     };
     wrote = λ t all was at. record { alone = alone_on (alone_start (dev.time old) blob) (told t); done = tt };
     covers = λ t all was at. tt;
-    front = λ t. data_front (told t);
+    prefix = λ t. data_prefix (told t);
     stays = λ t. data_stays (told t);
     had = λ t. tt;
     «length» = tt;
@@ -55,8 +55,8 @@ module _ {D : Type 0} (dev : device.Ghosts D) (seal : List ℕ → ℕ) (P : ℕ
   })
 
   module _ (v : Unit {0}) (told : dev.Tells → Passes {T = Unit {0}} blob (Write (page_at P page + from) (drop from bytes)) (Ok v) (dev.time old) (dev.time mid)) (first_faults : dev.faults old ≤ dev.faults mid) (reads : NoReads blob (dev.opened old) (dev.opened mid)) (last : D) where
-    slot_front : {r : Result (Unit {0}) DevError} → dev.Tells → Passes {T = Unit {0}} blob (Write (slot_at P page second) (slot_bytes seal P bytes)) r (dev.time mid) (dev.time last) → SparesFront (page_at P page) blob (dev.time old) (dev.time last)
-    slot_front t passes = front_write (page_at P page) blob (dev.time old) (dev.time mid) (dev.time last) _ _ _ (omega (arith, slot_low P page second)) (data_front (told t)) passes
+    slot_prefix : {r : Result (Unit {0}) DevError} → dev.Tells → Passes {T = Unit {0}} blob (Write (slot_at P page second) (slot_bytes seal P bytes)) r (dev.time mid) (dev.time last) → SparesPrefix (page_at P page) blob (dev.time old) (dev.time last)
+    slot_prefix t passes = prefix_write (page_at P page) blob (dev.time old) (dev.time mid) (dev.time last) _ _ _ (omega (arith, slot_low P page second)) (data_prefix (told t)) passes
 
     slot_stays : {r : Result (Unit {0}) DevError} → dev.Tells → Passes {T = Unit {0}} blob (Write (slot_at P page second) (slot_bytes seal P bytes)) r (dev.time mid) (dev.time last) → SettlesNothing blob (dev.time old) (dev.time last)
     slot_stays t passes = settles_write blob (dev.time old) (dev.time mid) (dev.time last) _ _ _ (data_stays (told t)) passes
@@ -74,7 +74,7 @@ module _ {D : Type 0} (dev : device.Ghosts D) (seal : List ℕ → ℕ) (P : ℕ
       };
       wrote = λ t all was at. record { alone = alone_on (alone_on (alone_start (dev.time old) blob) (told t)) (then t); done = tt };
       covers = λ t all was at. tt;
-      front = λ t. slot_front t (then t);
+      prefix = λ t. slot_prefix t (then t);
       stays = λ t. slot_stays t (then t);
       had = λ t. tt;
       «length» = tt;
@@ -96,7 +96,7 @@ module _ {D : Type 0} (dev : device.Ghosts D) (seal : List ℕ → ℕ) (P : ℕ
         done = page_wrote seal P all blob (dev.time old) page from bytes second new size at was (told t) (then t);
       };
       covers = λ t all was at. page_covers seal P all blob (dev.time old) page from bytes second fits small room new size at was (told t) (then t);
-      front = λ t. slot_front t (then t);
+      prefix = λ t. slot_prefix t (then t);
       stays = λ t. slot_stays t (then t);
       had = λ t. had_write blob _ _ u (dev.time mid) (dev.time last) (then t);
       «length» = opened;

@@ -10,12 +10,12 @@ use Rattle.sealed_pages.specs.Entries.{IsOpenAt, NoReads}
 use Rattle.sealed_pages.specs.Flushing.{Ready, Data, PageFlushed, Wrote, CoversFrom, next_slot}
 use Rattle.sealed_pages.specs.Leftover.{SettlesNothing}
 use Rattle.sealed_pages.specs.PageWrites.{WritesPage, WritesPages}
-use Rattle.sealed_pages.specs.Unrecovered.{SparesFront}
+use Rattle.sealed_pages.specs.Unrecovered.{SparesPrefix}
 use Rattle.sealed_pages.specs.View.{view, page_at, StandsAt}
 use Rattle.sealed_pages.proofs.adopted.Clearing.{settles_start, settles_then}
 use Rattle.sealed_pages.proofs.slots.CoverLemmas.{covers_next}
 use Rattle.sealed_pages.specs.lemmas.Entries.{open_some, no_reads_start, no_reads_then}
-use Rattle.sealed_pages.proofs.Fronts.{front_start, front_now, front_page, front_then}
+use Rattle.sealed_pages.proofs.Prefixes.{prefix_start, prefix_now, prefix_page, prefix_then}
 use Rattle.sealed_pages.proofs.slots.PageCalls.{flushed_as, wrote_as, alone_then, wrote_start, wrote_then, flush_start, flush_then, part_stands}
 use Rattle.sealed_pages.proofs.cutting.Truncating.{rose_since}
 
@@ -25,7 +25,7 @@ module _ {D : Type 0} (dev : device.Ghosts D) (seal : List ℕ → ℕ) (P : ℕ
     pub entries : NoReads blob (dev.opened old) (dev.opened now)
     pub faults : dev.faults old ≤ dev.faults now
     pub later : first ≤ page
-    pub front : dev.Tells → SparesFront (page_at P first) blob (dev.time old) (dev.time now)
+    pub prefix : dev.Tells → SparesPrefix (page_at P first) blob (dev.time old) (dev.time now)
     pub stays : dev.Tells → SettlesNothing blob (dev.time old) (dev.time now)
     pub had : dev.Tells → IsHad (disk (dev.time old) blob) → IsHad (disk (dev.time now) blob)
     pub told : dev.Tells → (all : List ℕ) → Ready seal P all (first * P + begin) settled newest (disk (dev.time old) blob) → StandsAt all (first * P) tip
@@ -39,7 +39,7 @@ module _ {D : Type 0} (dev : device.Ghosts D) (seal : List ℕ → ℕ) (P : ℕ
     entries = no_reads_start (dev.opened old) blob (open_some (dev.opened old) blob end opened);
     faults = omega arith;
     later = omega arith;
-    front = λ t. front_start (page_at P first) blob (dev.time old);
+    prefix = λ t. prefix_start (page_at P first) blob (dev.time old);
     stays = λ t. settles_start blob (dev.time old);
     had = λ t had. had;
     told = λ t all ready at. subst (λ (x : ℕ). PageFlushed seal P {T = ℕ} {E = DevError} all (x) settled newest blob (Ok 0) (dev.time old) (dev.time old)) same (flush_start seal P (omega (arith, begun)) blob 0 all (first * P + begin) settled newest (dev.time old) ready);
@@ -56,7 +56,7 @@ module _ {D : Type 0} (dev : device.Ghosts D) (seal : List ℕ → ℕ) (P : ℕ
     told = λ t all ready at. subst (λ (x : ℕ). PageFlushed seal P {T = ℕ} {E = DevError} all (x) settled newest blob (Ok end) (dev.time old) (dev.time old)) same (flush_start seal P (omega (arith, begun)) blob end all (first * P + begin) settled newest (dev.time old) ready);
     wrote = λ t all was at. wrote_start P end all _ blob (dev.time old) (subst (λ (x : ℕ). Data P all x (view (disk (dev.time old) blob).content)) same was);
     covers = λ t all more was at. absurd (omega (arith, more, is));
-    front = λ t. front_start (page_at P first) blob (dev.time old);
+    prefix = λ t. prefix_start (page_at P first) blob (dev.time old);
     stays = λ t. settles_start blob (dev.time old);
     had = λ t had. had;
     «length» = opened;
@@ -75,7 +75,7 @@ module _ {D : Type 0} (dev : device.Ghosts D) (seal : List ℕ → ℕ) (P : ℕ
       told = λ t all ready stands. subst (λ (x : ℕ). PageFlushed seal P {T = ℕ} {E = DevError} all (x) settled newest blob (Ok end) (dev.time old) (dev.time now)) same (flushed_as _ _ (going.told t all ready stands));
       wrote = λ t all was stands. subst (λ (x : ℕ). Wrote {T = ℕ} {E = DevError} P all (x) blob (Ok end) (dev.time old) (dev.time now)) same (wrote_as _ _ (going.wrote t all was stands));
       covers = λ t all more was stands. subst (λ (x : ℕ). CoversFrom seal P (disk (dev.time now) blob).content first x) whole (going.covers t all was stands);
-      front = going.front;
+      prefix = going.prefix;
       stays = going.stays;
       had = going.had;
       «length» = opened;
@@ -104,8 +104,8 @@ module _ {D : Type 0} (dev : device.Ghosts D) (seal : List ℕ → ℕ) (P : ℕ
           → Wrote P all (page * P + length (take m (drop at tip))) blob r (dev.time now) (dev.time new)
       page_wrote write t all was stands = write.wrote t all (page_data t all was stands) (part_stands all (first * P) at m (page * P) tip stands (omega (arith, fits, is)) place)
 
-      page_front : {r : Result ℕ DevError} → WritesPage dev seal P blob now new page from (take m (drop at tip)) slot r → dev.Tells → SparesFront (page_at P first) blob (dev.time old) (dev.time new)
-      page_front write t = front_then (page_at P first) blob (dev.time old) (dev.time now) (dev.time new) (going.front t) (front_page P first page blob (dev.time now) (dev.time new) going.later (write.front t))
+      page_prefix : {r : Result ℕ DevError} → WritesPage dev seal P blob now new page from (take m (drop at tip)) slot r → dev.Tells → SparesPrefix (page_at P first) blob (dev.time old) (dev.time new)
+      page_prefix write t = prefix_then (page_at P first) blob (dev.time old) (dev.time now) (dev.time new) (going.prefix t) (prefix_page P first page blob (dev.time now) (dev.time new) going.later (write.prefix t))
 
       pub page_failed : 1 ≤ P → (r : Result ℕ DevError) (e : DevError) → r ≡ Err e → WritesPage dev seal P blob now new page from (take m (drop at tip)) slot (Err e) → WritesPages dev seal P blob old new first begin tip settled newest r
       page_failed pos r e failed write = subst (WritesPages dev seal P blob old new first begin tip settled newest) (sym failed) (record {
@@ -115,7 +115,7 @@ module _ {D : Type 0} (dev : device.Ghosts D) (seal : List ℕ → ℕ) (P : ℕ
         };
         wrote = λ t all was stands. record { alone = alone_then _ _ _ _ (going.wrote t all was stands).alone (page_wrote write t all was stands).alone; done = tt };
         covers = λ t all more was stands. tt;
-        front = page_front write;
+        prefix = page_prefix write;
         stays = λ t. settles_then blob (dev.time old) (dev.time now) (dev.time new) (going.stays t) (write.stays t);
         had = λ t had. tt;
         «length» = tt;
@@ -129,13 +129,13 @@ module _ {D : Type 0} (dev : device.Ghosts D) (seal : List ℕ → ℕ) (P : ℕ
         entries = no_reads_then blob (dev.opened old) (dev.opened now) (dev.opened new) going.entries write.entries;
         faults = omega (arith, going.faults, write.faults);
         later = omega (arith, going.later);
-        front = page_front write;
+        prefix = page_prefix write;
         stays = λ t. settles_then blob (dev.time old) (dev.time now) (dev.time new) (going.stays t) (write.stays t);
         had = λ t had. write.had t;
         told = λ t all ready stands. subst (λ (x : ℕ). PageFlushed seal P {T = ℕ} {E = DevError} all (x) settled newest blob (Ok 0) (dev.time old) (dev.time new)) far
             (flush_then seal P pos blob 0 all _ _ settled newest (Ok 0) (dev.time old) (dev.time now) (dev.time new) (going.told t all ready stands) (flushed_as _ 0 (page_flushed write t all ready stands)));
         covers = λ t all was stands.
-            covers_next seal P first page at n (disk (dev.time now) blob) (disk (dev.time new) blob) (going.covers t all was stands) place pos size (front_now _ _ _ _ (write.front t))
+            covers_next seal P first page at n (disk (dev.time now) blob) (disk (dev.time new) blob) (going.covers t all was stands) place pos size (prefix_now _ _ _ _ (write.prefix t))
             (omega (arith, long, write.covers t all (page_data t all was stands) (part_stands all (first * P) at m (page * P) tip stands (omega (arith, fits, is)) place)));
         wrote = λ t all was stands. subst (λ (x : ℕ). Wrote {T = ℕ} {E = DevError} P all (x) blob (Ok 0) (dev.time old) (dev.time new)) far
             (wrote_then P 0 all _ _ blob (Ok 0) (dev.time old) (dev.time now) (dev.time new) (going.wrote t all was stands) (wrote_as _ 0 (page_wrote write t all was stands)));

@@ -14,12 +14,12 @@ use Rattle.sealed_pages.specs.Entries.{NoReads}
 use Rattle.sealed_pages.specs.Flushing.{Removed, IsClean, Data, Wrote, no_slot}
 use Rattle.sealed_pages.specs.Leftover.{OnlySlot, IsCleared}
 use Rattle.sealed_pages.specs.Removals.{CutsBehind, ClearsTorn, Removes}
-use Rattle.sealed_pages.specs.Unrecovered.{SparesFront}
+use Rattle.sealed_pages.specs.Unrecovered.{SparesPrefix}
 use Rattle.sealed_pages.specs.View.{view, page_at, slot_at}
 use Rattle.sealed_pages.proofs.adopted.Adopting.{adopted_kept, torn_inside, torn_other, head_is, all_clean, pages_reach, pages_some, last_page}
 use Rattle.sealed_pages.proofs.adopted.Clearing.{slot_clears, slot_then, slot_settle, both_cleared}
 use Rattle.sealed_pages.specs.lemmas.Entries.{no_reads_then, no_reads_same, no_reads_open, open_same}
-use Rattle.sealed_pages.proofs.Fronts.{front_page, front_then, front_settle}
+use Rattle.sealed_pages.proofs.Prefixes.{prefix_page, prefix_then, prefix_settle}
 use Rattle.sealed_pages.proofs.adopted.Keeping.{settle_any, settle_ready, settle_data}
 use Rattle.sealed_pages.proofs.slots.PageCalls.{only_then, alone_on, alone_then}
 use Rattle.sealed_pages.proofs.cutting.Truncating.{rose_since}
@@ -56,14 +56,14 @@ module _ {D : Type 0} (dev : device.Ghosts D) (seal : List ℕ → ℕ) (P : ℕ
         → Removed seal P all (first * P + from) (disk (dev.time old) blob).content a.σ (IsCut (disk (dev.time old) blob).content) blob r (dev.time old) (dev.time mid)
     cut_told cut t all a = cut.told t all (first * P + from) (disk (dev.time old) blob).content a.σ (adopted_kept seal P pos all first from newest behind torn begun (disk (dev.time old) blob) a) (pages_reach P first from begun) a.longer a.shorter
 
-    cut_front : {r : Result ℕ DevError} → CutsBehind dev seal P blob old mid (pages_of first from) behind r → dev.Tells → SparesFront (page_at P first) blob (dev.time old) (dev.time mid)
-    cut_front cut t = front_page P first (pages_of first from) blob (dev.time old) (dev.time mid) (pages_span first from).0 (cut.front t)
+    cut_prefix : {r : Result ℕ DevError} → CutsBehind dev seal P blob old mid (pages_of first from) behind r → dev.Tells → SparesPrefix (page_at P first) blob (dev.time old) (dev.time mid)
+    cut_prefix cut t = prefix_page P first (pages_of first from) blob (dev.time old) (dev.time mid) (pages_span first from).0 (cut.prefix t)
 
     pub behind_failed : (r : Result ℕ DevError) (e : DevError) → r ≡ Err e → CutsBehind dev seal P blob old mid (pages_of first from) behind (Err e) → Removes dev seal P blob old mid first from newest behind torn r
     behind_failed r e is cut = subst (Removes dev seal P blob old mid first from newest behind torn) (sym is) (record {
       told = λ t all a. record { any_moment = (cut_told cut t all a).any_moment; done = tt };
       wrote = λ t all same. record { alone = (cut.wrote t all (first * P + from) same (pages_reach P first from begun)).alone; done = tt };
-      front = cut_front cut;
+      prefix = cut_prefix cut;
       clears = λ t rest. slot_clears seal P first from newest blob (dev.time old) (dev.time mid) (cut.loose t (slot_at P first (not newest)) rest);
       cleared = λ t left. tt;
       settles = λ t. tt;
@@ -90,8 +90,8 @@ module _ {D : Type 0} (dev : device.Ghosts D) (seal : List ℕ → ℕ) (P : ℕ
           let two = clear.wrote t all (first * P + from) one.done in
           record { alone = alone_then (dev.time old) (dev.time mid) (dev.time last) blob one.alone two.alone; done = two.done }
 
-      torn_front : {r : Result ℕ DevError} → ClearsTorn dev seal P blob mid last first (not newest) torn r → dev.Tells → SparesFront (page_at P first) blob (dev.time old) (dev.time last)
-      torn_front clear t = front_then (page_at P first) blob (dev.time old) (dev.time mid) (dev.time last) (cut_front cut t) (clear.front t)
+      torn_prefix : {r : Result ℕ DevError} → ClearsTorn dev seal P blob mid last first (not newest) torn r → dev.Tells → SparesPrefix (page_at P first) blob (dev.time old) (dev.time last)
+      torn_prefix clear t = prefix_then (page_at P first) blob (dev.time old) (dev.time mid) (dev.time last) (cut_prefix cut t) (clear.prefix t)
 
       torn_only : {r : Result ℕ DevError} → ClearsTorn dev seal P blob mid last first (not newest) torn r → dev.Tells → IsAtRest (disk (dev.time old) blob) → Always (dev.time old) (dev.time last) (OnlyAt blob (disk (dev.time old)) (OnlySlot (slot_at P first (not newest))))
       torn_only clear t rest = slot_then (slot_at P first (not newest)) blob (dev.time old) (dev.time mid) (dev.time last) (cut.loose t (slot_at P first (not newest)) rest) (λ only. clear.loose t only)
@@ -103,7 +103,7 @@ module _ {D : Type 0} (dev : device.Ghosts D) (seal : List ℕ → ℕ) (P : ℕ
       torn_failed r e is clear = subst (Removes dev seal P blob old last first from newest behind torn) (sym is) (record {
         told = λ t all a. record { any_moment = torn_moments clear t all a; done = tt };
         wrote = torn_wrote clear;
-        front = torn_front clear;
+        prefix = torn_prefix clear;
         clears = λ t rest. slot_clears seal P first from newest blob (dev.time old) (dev.time last) (torn_only clear t rest);
         cleared = λ t left. tt;
         settles = λ t. tt;
@@ -119,8 +119,8 @@ module _ {D : Type 0} (dev : device.Ghosts D) (seal : List ℕ → ℕ) (P : ℕ
         settle_moments passes t all a = only_then (dev.time old) (dev.time last) (dev.time new) blob (Leaves seal P all (first * P + from)) (torn_moments clear t all a)
             (settle_any seal P all (first * P + from) a.σ pos (disk (dev.time old) blob).content blob (dev.time last) (torn_told clear t all a).done.0 passes)
 
-        settle_front : {r : Result (Unit {0}) DevError} → Passes blob Settle r (dev.time last) (dev.time new) → dev.Tells → SparesFront (page_at P first) blob (dev.time old) (dev.time new)
-        settle_front {r = r} passes t = front_settle (page_at P first) blob (dev.time old) (dev.time last) (dev.time new) r (torn_front clear t) passes
+        settle_prefix : {r : Result (Unit {0}) DevError} → Passes blob Settle r (dev.time last) (dev.time new) → dev.Tells → SparesPrefix (page_at P first) blob (dev.time old) (dev.time new)
+        settle_prefix {r = r} passes t = prefix_settle (page_at P first) blob (dev.time old) (dev.time last) (dev.time new) r (torn_prefix clear t) passes
 
         settle_only : {r : Result (Unit {0}) DevError} → Passes blob Settle r (dev.time last) (dev.time new) → dev.Tells → IsAtRest (disk (dev.time old) blob) → Always (dev.time old) (dev.time new) (OnlyAt blob (disk (dev.time old)) (OnlySlot (slot_at P first (not newest))))
         settle_only {r = r} passes t rest = slot_settle (slot_at P first (not newest)) blob (dev.time old) (dev.time last) (dev.time new) r (torn_only clear t rest) passes
@@ -132,7 +132,7 @@ module _ {D : Type 0} (dev : device.Ghosts D) (seal : List ℕ → ℕ) (P : ℕ
         settle_failed r e is counts told = subst (Removes dev seal P blob old new first from newest behind torn) (sym is) (record {
           told = λ t all a. record { any_moment = settle_moments (told t) t all a; done = tt };
           wrote = λ t all same. record { alone = alone_on (torn_wrote clear t all same).alone (told t); done = tt };
-          front = λ t. settle_front (told t) t;
+          prefix = λ t. settle_prefix (told t) t;
           clears = λ t rest. slot_clears seal P first from newest blob (dev.time old) (dev.time new) (settle_only (told t) t rest);
           cleared = λ t left. tt;
           settles = λ t. tt;
@@ -158,7 +158,7 @@ module _ {D : Type 0} (dev : device.Ghosts D) (seal : List ℕ → ℕ) (P : ℕ
             alone = alone_on (torn_wrote clear t all same).alone (told t);
             done = settle_data P all (first * P + from) blob (dev.time last) (dev.time new) v (told t) (torn_wrote clear t all same).done;
           };
-          front = λ t. settle_front (told t) t;
+          prefix = λ t. settle_prefix (told t) t;
           clears = λ t rest. slot_clears seal P first from newest blob (dev.time old) (dev.time new) (settle_only (told t) t rest);
           cleared = λ t left. subst (IsCleared seal P first from newest)
               (sym (ap (λ (b : Blob). b.settled) (settled_is t) ∙ clear.content t ∙ ap (λ (l : List ℕ). cond torn (written l (slot_at P first (not newest)) no_slot) l) (cut.content t)))

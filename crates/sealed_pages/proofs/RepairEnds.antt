@@ -14,7 +14,7 @@ use Rattle.sealed_pages.specs.Unrecovered.{blob_of}
 use Rattle.sealed_pages.specs.View.{page_at}
 use Rattle.sealed_pages.proofs.adopted.Clearing.{clears_start, rest_cleared}
 use Rattle.sealed_pages.specs.lemmas.Entries.{no_reads_start, open_some}
-use Rattle.sealed_pages.proofs.Fronts.{front_start}
+use Rattle.sealed_pages.proofs.Prefixes.{prefix_start}
 use Rattle.sealed_pages.proofs.HadLemmas.{had_rest}
 use Rattle.sealed_pages.proofs.memory.Holding.{holds_start, state_clean}
 use Rattle.sealed_pages.proofs.slots.PageCalls.{alone_start}
@@ -35,7 +35,7 @@ module _ {D : Type 0} (dev : device.Ghosts D) (seal : List ℕ → ℕ) (u : Buf
     told = λ t all holds. holds_start seal u all (key_of u) (dev.time old) begun holds;
     done = λ t all holds. subst (λ (x : Buffer). Holds seal x all (blob_of u (dev.time old))) (sym is) holds;
     wrote = λ t all same. record { alone = alone_start (dev.time old) (key_of u); done = same };
-    front = λ t. front_start (page_at u.page_size u.first) (key_of u) (dev.time old);
+    prefix = λ t. prefix_start (page_at u.page_size u.first) (key_of u) (dev.time old);
     clears = λ t rest. clears_start seal u.page_size u.first u.from u.newest (key_of u) (dev.time old) rest;
     cleared = λ t rest left. rest_cleared seal u.page_size u.first u.from u.newest (blob_of u (dev.time old)) u.behind u.torn left rest behind_none torn_none;
     settles = λ t left. absurd (cc (left, none));
@@ -71,7 +71,7 @@ module _ {D : Type 0} (dev : device.Ghosts D) (seal : List ℕ → ℕ) (u : Buf
       told = told_at (Err e) gone;
       done = λ t all holds. tt;
       wrote = λ t all same. record { alone = (gone.wrote t all same).alone; done = tt };
-      front = gone.front;
+      prefix = gone.prefix;
       clears = gone.clears;
       cleared = λ t rest was. tt;
       settles = λ t left. tt;
@@ -93,7 +93,7 @@ module _ {D : Type 0} (dev : device.Ghosts D) (seal : List ℕ → ℕ) (u : Buf
         size = holds.size;
       }));
       wrote = λ t all same. record { alone = (gone.wrote t all same).alone; done = (gone.wrote t all same).done };
-      front = gone.front;
+      prefix = gone.prefix;
       clears = gone.clears;
       cleared = λ t rest was. gone.cleared t was;
       settles = λ t left. gone.settles t;

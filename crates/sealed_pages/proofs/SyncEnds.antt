@@ -20,13 +20,13 @@ use Rattle.sealed_pages.specs.Flushes.{Flushes}
 use Rattle.sealed_pages.specs.Flushing.{Alone, last_slot}
 use Rattle.sealed_pages.specs.Leftover.{Leftover, ClearsFirst, IsKnown}
 use Rattle.sealed_pages.specs.SealedPrefix.{sealed_prefix}
-use Rattle.sealed_pages.specs.Unrecovered.{blob_of, prefix_of, SparesFront, KeepsPrefix, IsUnrecovered}
+use Rattle.sealed_pages.specs.Unrecovered.{blob_of, prefix_of, SparesPrefix, KeepsPrefix, IsUnrecovered}
 use Rattle.sealed_pages.specs.View.{page_at}
 use Rattle.sealed_pages.specs.Writes.{Syncs}
 use Rattle.sealed_pages.proofs.memory.CacheLemmas.{cached_none}
 use Rattle.sealed_pages.proofs.adopted.Clearing.{clears_start, clears_settle}
 use Rattle.sealed_pages.specs.lemmas.Entries.{no_reads_start, open_some}
-use Rattle.sealed_pages.proofs.Fronts.{front_start, front_settle}
+use Rattle.sealed_pages.proofs.Prefixes.{prefix_start, prefix_settle}
 use Rattle.sealed_pages.proofs.memory.Holding.{holds_start, holds_own, tip_stands, bytes_length}
 use Rattle.sealed_pages.proofs.adopted.Keeping.{settle_data}
 use Rattle.sealed_pages.proofs.adopted.KnownLemmas.{known_synced}
@@ -47,7 +47,7 @@ module _ {D : Type 0} (dev : device.Ghosts D) (seal : List ℕ → ℕ) {B : Typ
     known = λ t known. known;
     steady = λ t un. stood_keeps seal (see v) (key_of (see v)) (dev.time old) un;
     unrecovered = λ t un. un;
-    front = λ t. front_start (page_at (see v).page_size (see v).first) (key_of (see v)) (dev.time old);
+    prefix = λ t. prefix_start (page_at (see v).page_size (see v).first) (key_of (see v)) (dev.time old);
     alone = λ t backed. alone_start (dev.time old) (key_of (see v));
     bytes = λ t backed. refl;
     backed = λ t backed. backed;
@@ -80,7 +80,7 @@ module _ {D : Type 0} (dev : device.Ghosts D) (seal : List ℕ → ℕ) {B : Typ
       known = λ t known. tt;
       steady = flush.steady;
       unrecovered = λ t un. tt;
-      front = flush.front;
+      prefix = flush.prefix;
       alone = λ t backed. (flush.wrote t (bytes_of u (blob_of u (dev.time old)).content) backed.flushed (tip_stands u (blob_of u (dev.time old)).content)).alone;
       bytes = λ t backed. tt;
       backed = λ t backed. tt;
@@ -126,8 +126,8 @@ module _ {D : Type 0} (dev : device.Ghosts D) (seal : List ℕ → ℕ) {B : Typ
           (subst (λ (p : ℕ). KeepsPrefix seal p (sealed_prefix seal p (blob_of u (dev.time mid)).content) (key_of u) (dev.time mid) (dev.time new)) flush.page_size
           (settled_keeps seal (see w) (key_of u) (dev.time mid) (dev.time new) x (flush.unrecovered t un) (passes t)))
 
-      any_front : dev.Tells → SparesFront (page_at u.page_size u.first) (key_of u) (dev.time old) (dev.time new)
-      any_front t = front_settle (page_at u.page_size u.first) (key_of u) (dev.time old) (dev.time mid) (dev.time new) x (flush.front t) (passes t)
+      any_prefix : dev.Tells → SparesPrefix (page_at u.page_size u.first) (key_of u) (dev.time old) (dev.time new)
+      any_prefix t = prefix_settle (page_at u.page_size u.first) (key_of u) (dev.time old) (dev.time mid) (dev.time new) x (flush.prefix t) (passes t)
 
       any_alone : dev.Tells → IsBacked seal u (blob_of u (dev.time old)).content → Alone (key_of u) (dev.time old) (dev.time new)
       any_alone t backed = alone_on (stands backed t) (passes t)
@@ -145,7 +145,7 @@ module _ {D : Type 0} (dev : device.Ghosts D) (seal : List ℕ → ℕ) {B : Typ
         known = λ t known. tt;
         steady = any_steady;
         unrecovered = λ t un. tt;
-        front = any_front;
+        prefix = any_prefix;
         alone = any_alone;
         bytes = λ t backed. tt;
         backed = λ t backed. tt;
@@ -210,7 +210,7 @@ module _ {D : Type 0} (dev : device.Ghosts D) (seal : List ℕ → ℕ) {B : Typ
         steady = any_steady mid new w begun flush (Ok tt) passes opened later;
         unrecovered = λ t un. at_v (λ (b : Buffer). IsUnrecovered seal b (blob_of u (dev.time new)))
             (settled_stays seal (see w) (key_of u) (dev.time mid) (dev.time new) tt settled_buffer (flush.unrecovered t un) (passes t) refl refl (omega (arith, ends)) (backed_now t (flush.unrecovered t un).backed));
-        front = any_front mid new w begun flush (Ok tt) passes opened later;
+        prefix = any_prefix mid new w begun flush (Ok tt) passes opened later;
         alone = any_alone mid new w begun flush (Ok tt) passes opened later;
         bytes = λ t backed. at_v (λ (b : Buffer). bytes_of b (blob_of u (dev.time new)).content ≡ means)
             (flushed_bytes settled_buffer u.page_size (size_of u) means (blob_of u (dev.time new)).content (omega (arith, begun)) flush.page_size flush.size

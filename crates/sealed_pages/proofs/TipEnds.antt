@@ -86,7 +86,7 @@ module _ {D : Type 0} (dev : device.Ghosts D) (seal : List ℕ → ℕ) (u : Buf
     told = λ t all holds. (all_pages.told t all (holds.state.ready clean) holds.tip_at).any_moment;
     done = λ t all holds. tt;
     wrote = λ t all same at. record { alone = (all_pages.wrote t all same at).alone; done = tt };
-    front = all_pages.front;
+    prefix = all_pages.prefix;
     stays = all_pages.stays;
     had = λ t had. tt;
     covers = λ t all same at more. tt;
@@ -110,7 +110,7 @@ module _ {D : Type 0} (dev : device.Ghosts D) (seal : List ℕ → ℕ) (u : Buf
           size = subst (λ (x : Buffer). length all ≡ size_of x) into.same (holds.size ∙ sym into.size);
         });
     wrote = λ t all same at. record { alone = (all_pages.wrote t all same at).alone; done = (all_pages.wrote t all same at).done };
-    front = all_pages.front;
+    prefix = all_pages.prefix;
     stays = all_pages.stays;
     had = λ t had. all_pages.had t had;
     covers = λ t all same at more. all_pages.covers t all more same at;

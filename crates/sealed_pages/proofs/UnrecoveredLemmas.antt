@@ -19,7 +19,7 @@ use Rattle.sealed_pages.specs.declared.reading.LastPage.{LastPage}
 use Rattle.sealed_pages.specs.Reading.{Unchanged}
 use Rattle.sealed_pages.specs.SealedPrefix.{pages_in, sealed_from, sealed_prefix, adopted_size, Prefix, data_from}
 use Rattle.sealed_pages.specs.Slots.{slot_length, page_length, best_slot}
-use Rattle.sealed_pages.specs.Unrecovered.{HasFront, FrontOf, SparesFront, HasPrefix, KeepsPrefix, IsUnrecovered, IsAdopted}
+use Rattle.sealed_pages.specs.Unrecovered.{HasBytesBelow, SparedPrefix, SparesPrefix, HasPrefix, KeepsPrefix, IsUnrecovered, IsAdopted}
 use Rattle.sealed_pages.specs.View.{view, bytes_at, page_at, slot_at}
 use Rattle.sealed_pages.proofs.adopted.Adopt.{best_length, length-data_from, get_or-data_from}
 use Rattle.sealed_pages.proofs.adopted.Adopting.{pages_none, pages_some}
@@ -29,7 +29,7 @@ use Rattle.sealed_pages.proofs.cutting.Cuts.{below_start}
 use Rattle.sealed_pages.proofs.HadLemmas.{had_settled, had_rest}
 use Rattle.sealed_pages.proofs.Syncing.{backed_more}
 use Rattle.sealed_pages.proofs.cutting.Truncating.{prefix_covers}
-use Rattle.sealed_pages.proofs.Fronts.{front_start, front_settle, front_look, front_now}
+use Rattle.sealed_pages.proofs.Prefixes.{prefix_start, prefix_settle, prefix_look, prefix_now}
 use Rattle.sealed_pages.proofs.slots.PageCalls.{only_then, only_weaker}
 use Rattle.sealed_pages.proofs.Reaching.{prefix_sound, prefix_size, own_prefix}
 use Rattle.sealed_pages.proofs.memory.Holding.{holds_data}
@@ -95,18 +95,18 @@ module _ (seal : List ℕ → ℕ) (P : ℕ) where
     unfolding sealed_prefix
     prefix_to short = from_to short (pages_in P c) (pages_in P d) 0 (omega arith) (omega (arith, many c to.long)) (omega (arith, many d to.other))
 
-  front_long : (page : ℕ) (n : ℕ) → ((i : ℕ) → i < page_at P (page + 1) → i < n) → page_at P (page + 1) ≤ n
-  front_long page n short = omega (arith, page_next P page, short (page_at P page + (P + 11)) (omega (arith, page_next P page)))
+  prefix_long : (page : ℕ) (n : ℕ) → ((i : ℕ) → i < page_at P (page + 1) → i < n) → page_at P (page + 1) ≤ n
+  prefix_long page n short = omega (arith, page_next P page, short (page_at P page + (P + 11)) (omega (arith, page_next P page)))
 
   -- What outlives each crash up to the end of a page that is not full holds the sealed prefix.
-  pub front_prefix : (page : ℕ) (c : List ℕ) (b : Blob) → page_at P (page + 1) ≤ length c → page_length seal P c page < P → HasFront (page_at P (page + 1)) (view c) b → HasPrefix seal P (sealed_prefix seal P c) b
-  front_prefix page c b long short front = record {
-    reads = sym (prefix_to page c b.content (record { long = long; other = front_long page (length b.content) front.long; same = λ i lt. sym (front.same i lt) }) short);
-    crashes = guards_left (λ i. i < page_at P (page + 1)) (view c) b (λ d. sealed_prefix seal P d ≡ sealed_prefix seal P c) front
+  pub prefix_from_below : (page : ℕ) (c : List ℕ) (b : Blob) → page_at P (page + 1) ≤ length c → page_length seal P c page < P → HasBytesBelow (page_at P (page + 1)) (view c) b → HasPrefix seal P (sealed_prefix seal P c) b
+  prefix_from_below page c b long short prefix = record {
+    reads = sym (prefix_to page c b.content (record { long = long; other = prefix_long page (length b.content) prefix.long; same = λ i lt. sym (prefix.same i lt) }) short);
+    crashes = guards_left (λ i. i < page_at P (page + 1)) (view c) b (λ d. sealed_prefix seal P d ≡ sealed_prefix seal P c) prefix
         (λ d hold. sym (prefix_to page c d (record {
           long = long;
-          other = omega (arith, hold.no_shorter, front_long page (shortest b) front.short);
-          same = λ i lt. sym (guards_crash (λ i. i < page_at P (page + 1)) (view c) b front d hold i lt);
+          other = omega (arith, hold.no_shorter, prefix_long page (shortest b) prefix.short);
+          same = λ i lt. sym (guards_crash (λ i. i < page_at P (page + 1)) (view c) b prefix d hold i lt);
         }) short));
   }
 
@@ -169,8 +169,8 @@ module _ (seal : List ℕ → ℕ) (P : ℕ) (bytes : List ℕ) (key : Key) wher
   keeps_then a b c first second = only_then a b c key (HasPrefix seal P bytes) first (subst (λ (l : List ℕ). KeepsPrefix seal P l key b c) (keeps_now a b first) second)
 
 -- a page below the end of what is spared, which stands whole, is covered as before
-pub front_covers : (seal : List ℕ → ℕ) (P first : ℕ) (a b : Blob) (k : ℕ) → FrontOf (page_at P first) a b → k < first → page_at P (k + 1) ≤ length a.content → page_length seal P b.content k ≡ page_length seal P a.content k
-front_covers seal P first a b k has less whole =
+pub spared_covers : (seal : List ℕ → ℕ) (P first : ℕ) (a b : Blob) (k : ℕ) → SparedPrefix (page_at P first) a b → k < first → page_at P (k + 1) ≤ length a.content → page_length seal P b.content k ≡ page_length seal P a.content k
+spared_covers seal P first a b k has less whole =
     let near = page_order (λ x. 0) P (k + 1) first (omega (arith, less)) in
     page_to seal P k b.content a.content (record { long = omega (arith, has.long, whole, near); other = whole; same = λ i lt. has.reads i (omega (arith, lt, near)) }) k (omega arith)
 
@@ -180,19 +180,19 @@ page_settled k first P settled less all = omega (arith, times_more k first P les
 
 module _ (seal : List ℕ → ℕ) (u : Buffer) where
   -- what calls that spare the page and those before it leave of an adopted blob
-  module _ (key : Key) (a b : Timeline) (un : IsUnrecovered seal u (disk a key)) (end : ℕ) (within : un.page < end) (spares : SparesFront (page_at u.page_size end) key a b) where
+  module _ (key : Key) (a b : Timeline) (un : IsUnrecovered seal u (disk a key)) (end : ℕ) (within : un.page < end) (spares : SparesPrefix (page_at u.page_size end) key a b) where
     reach : page_at u.page_size (un.page + 1) ≤ page_at u.page_size end
     reach = page_order (λ x. 0) u.page_size (un.page + 1) end (omega (arith, within))
 
     long : page_at u.page_size (un.page + 1) ≤ length (disk a key).content
-    long = front_long seal u.page_size un.page (length (disk a key).content) un.front.long
+    long = prefix_long seal u.page_size un.page (length (disk a key).content) un.prefix.long
 
     pub spared_keeps : KeepsPrefix seal u.page_size (sealed_prefix seal u.page_size (disk a key).content) key a b
-    spared_keeps = only_weaker a b key (disk a) (FrontOf (page_at u.page_size end) (disk a key)) (HasPrefix seal u.page_size (sealed_prefix seal u.page_size (disk a key).content))
-        (λ x has. front_prefix seal u.page_size un.page (disk a key).content x long un.short (has.crashes (page_at u.page_size (un.page + 1)) (view (disk a key).content) reach un.front)) spares
+    spared_keeps = only_weaker a b key (disk a) (SparedPrefix (page_at u.page_size end) (disk a key)) (HasPrefix seal u.page_size (sealed_prefix seal u.page_size (disk a key).content))
+        (λ x has. prefix_from_below seal u.page_size un.page (disk a key).content x long un.short (has.crashes (page_at u.page_size (un.page + 1)) (view (disk a key).content) reach un.prefix)) spares
 
-    now : HasFront (page_at u.page_size (un.page + 1)) (view (disk a key).content) (disk b key)
-    now = (front_now (page_at u.page_size end) key a b spares).crashes (page_at u.page_size (un.page + 1)) (view (disk a key).content) reach un.front
+    now : HasBytesBelow (page_at u.page_size (un.page + 1)) (view (disk a key).content) (disk b key)
+    now = (prefix_now (page_at u.page_size end) key a b spares).crashes (page_at u.page_size (un.page + 1)) (view (disk a key).content) reach un.prefix
 
     pub spared_stays : (v : Buffer) → v.page_size ≡ u.page_size → un.page < v.first → (un.page + 1) * u.page_size ≤ v.settled → IsBacked seal v (disk b key).content → (v.settled ≡ size_of v → IsAtRest (disk b key)) → IsHad (disk b key) → IsUnrecovered seal v (disk b key)
     spared_stays v same below settled backed rest had = record {
@@ -203,9 +203,9 @@ module _ (seal : List ℕ → ℕ) (u : Buffer) where
         arith,
         un.short,
         page_to seal u.page_size un.page (disk a key).content (disk b key).content
-            (record { long = long; other = front_long seal u.page_size un.page (length (disk b key).content) now.long; same = λ i lt. sym (now.same i lt) }) un.page (omega arith),
+            (record { long = long; other = prefix_long seal u.page_size un.page (length (disk b key).content) now.long; same = λ i lt. sym (now.same i lt) }) un.page (omega arith),
       ));
-      front = subst (λ (P : ℕ). HasFront (page_at P (un.page + 1)) (view (disk b key).content) (disk b key)) (sym same)
+      prefix = subst (λ (P : ℕ). HasBytesBelow (page_at P (un.page + 1)) (view (disk b key).content) (disk b key)) (sym same)
           (record { there = now.there; sure = now.sure; short = now.short; long = now.long; outside = now.outside; same = λ i lt. refl });
       backed = backed;
       rest = rest;
@@ -214,14 +214,14 @@ module _ (seal : List ℕ → ℕ) (u : Buffer) where
 
   -- no call was made
   pub stood_keeps : (key : Key) (t : Timeline) → IsUnrecovered seal u (disk t key) → KeepsPrefix seal u.page_size (sealed_prefix seal u.page_size (disk t key).content) key t t
-  stood_keeps key t un = spared_keeps key t t un u.first un.below (front_start (page_at u.page_size u.first) key t)
+  stood_keeps key t un = spared_keeps key t t un u.first un.below (prefix_start (page_at u.page_size u.first) key t)
 
   -- a sync
   pub settled_keeps : {T : Type 0} (key : Key) (a b : Timeline) (r : Result T DevError) → IsUnrecovered seal u (disk a key) → Passes key Settle r a b → KeepsPrefix seal u.page_size (sealed_prefix seal u.page_size (disk a key).content) key a b
-  settled_keeps key a b r un passes = spared_keeps key a b un u.first un.below (front_settle (page_at u.page_size u.first) key a a b r (front_start (page_at u.page_size u.first) key a) passes)
+  settled_keeps key a b r un passes = spared_keeps key a b un u.first un.below (prefix_settle (page_at u.page_size u.first) key a a b r (prefix_start (page_at u.page_size u.first) key a) passes)
 
   pub settled_stays : {T : Type 0} (key : Key) (a b : Timeline) (x : T) (v : Buffer) → IsUnrecovered seal u (disk a key) → Passes key Settle (Ok x) a b → v.page_size ≡ u.page_size → v.first ≡ u.first → u.first * u.page_size ≤ v.settled → IsBacked seal v (disk b key).content → IsUnrecovered seal v (disk b key)
-  settled_stays key a b x v un passes same first settled backed = spared_stays key a b un u.first un.below (front_settle (page_at u.page_size u.first) key a a b (Ok x) (front_start (page_at u.page_size u.first) key a) passes) v same (omega (arith, un.below, first)) (page_settled un.page u.first u.page_size v.settled un.below settled) backed
+  settled_stays key a b x v un passes same first settled backed = spared_stays key a b un u.first un.below (prefix_settle (page_at u.page_size u.first) key a a b (Ok x) (prefix_start (page_at u.page_size u.first) key a) passes) v same (omega (arith, un.below, first)) (page_settled un.page u.first u.page_size v.settled un.below settled) backed
       (λ e. settled_rest (disk b key) (disk a key).content (ok_blob key Settle x a b passes)) (had_rest (disk b key) (settled_rest (disk b key) (disk a key).content (ok_blob key Settle x a b passes)))
 
   -- more bytes in the tip
@@ -231,7 +231,7 @@ module _ (seal : List ℕ → ℕ) (u : Buffer) where
     below = un.below;
     short = un.short;
     settled = un.settled;
-    front = un.front;
+    prefix = un.prefix;
     backed = record {
       flushed = backed_more u (record u { tip = u.tip ++ more }) more b.content refl within un.backed.flushed;
       tip = un.backed.tip;
@@ -267,12 +267,12 @@ module _ (seal : List ℕ → ℕ) (u : Buffer) where
           below = omega (arith, found.1, le, un.below);
           short = found.2;
           settled = page_settled found.0 (un.page + 1) u.page_size u.settled (omega (arith, found.1, le)) un.settled;
-          front = (let near = page_order (λ x. 0) u.page_size (found.0 + 1) (un.page + 1) (omega (arith, found.1, le)) in record {
-            there = un.front.there;
-            sure = un.front.sure;
-            short = λ i lt. un.front.short i (omega (arith, lt, near));
-            long = λ i lt. un.front.long i (omega (arith, lt, near));
-            outside = λ i lt. un.front.outside i (omega (arith, lt, near));
+          prefix = (let near = page_order (λ x. 0) u.page_size (found.0 + 1) (un.page + 1) (omega (arith, found.1, le)) in record {
+            there = un.prefix.there;
+            sure = un.prefix.sure;
+            short = λ i lt. un.prefix.short i (omega (arith, lt, near));
+            long = λ i lt. un.prefix.long i (omega (arith, lt, near));
+            outside = λ i lt. un.prefix.outside i (omega (arith, lt, near));
             same = λ i lt. refl;
           });
           backed = un.backed;
@@ -290,15 +290,15 @@ module _ (seal : List ℕ → ℕ) (u : Buffer) (pos : 1 ≤ u.page_size) where
   pub prefix_stands : (b : Blob) (j : ℕ) → IsUnrecovered seal u b → j * u.page_size ≤ length (sealed_prefix seal u.page_size b.content) → page_at u.page_size j ≤ length b.content
   prefix_stands b j un le = elim (cases_lt un.page j) [
     | inl past ↦ (let has = prefix_covers seal u.page_size b.content un.page u.page_size pos (omega arith) (omega (arith, le, times_more un.page j u.page_size past)) in absurd (omega (arith, has, un.short)))
-    | inr before ↦ omega (arith, page_order (λ x. 0) u.page_size j (un.page + 1) (omega (arith, before)), front_long seal u.page_size un.page (length b.content) un.front.long)
+    | inr before ↦ omega (arith, page_order (λ x. 0) u.page_size j (un.page + 1) (omega (arith, before)), prefix_long seal u.page_size un.page (length b.content) un.prefix.long)
   ]
 
   -- A cut of page j, behind the sealed prefix: it spares the pages before, and changes nothing where its page is not covered so far.
-  module _ (key : Key) (a b : Timeline) (un : IsUnrecovered seal u (disk a key)) (j keep : ℕ) (less : length (sealed_prefix seal u.page_size (disk a key).content) < j * u.page_size + keep) (spares : SparesFront (page_at u.page_size j) key a b) where
+  module _ (key : Key) (a b : Timeline) (un : IsUnrecovered seal u (disk a key)) (j keep : ℕ) (less : length (sealed_prefix seal u.page_size (disk a key).content) < j * u.page_size + keep) (spares : SparesPrefix (page_at u.page_size j) key a b) where
     pub cut_keeps : (page_length seal u.page_size (disk a key).content j < keep → Unchanged a b) → KeepsPrefix seal u.page_size (sealed_prefix seal u.page_size (disk a key).content) key a b
     cut_keeps refused = elim (behind_prefix seal u (disk a key) j keep pos un less) [
       | inl before ↦ spared_keeps seal u key a b before.0 j before.1 spares
-      | inr short ↦ spared_keeps seal u key a b un u.first un.below (front_look (page_at u.page_size u.first) key a b (refused short))
+      | inr short ↦ spared_keeps seal u key a b un u.first un.below (prefix_look (page_at u.page_size u.first) key a b (refused short))
     ]
 
     pub cut_stays : keep ≤ page_length seal u.page_size (disk a key).content j → (v : Buffer) → v.page_size ≡ u.page_size → v.first ≡ j → j * u.page_size ≤ v.settled → IsBacked seal v (disk b key).content → IsAtRest (disk b key) → IsUnrecovered seal v (disk b key)
@@ -326,7 +326,7 @@ adopted_unrecovered seal u c found buf pos finds over settled backed less = go f
         below = omega (arith, early.1, (pages_span u.first u.from).1, s.pages);
         short = early.2;
         settled = page_settled early.0 u.first u.page_size u.settled (omega (arith, early.1, (pages_span u.first u.from).1, s.pages)) settled;
-        front = guards_settled (λ i. i < page_at u.page_size (early.0 + 1)) (view c) c
+        prefix = guards_settled (λ i. i < page_at u.page_size (early.0 + 1)) (view c) c
             (λ i lt. omega (
               arith,
               lt,
@@ -351,8 +351,8 @@ first_later P first last m n is small = elim (cases_lt last first) [
 ]
 
 -- the sealed prefix is a part of the data from the start on
-own_front : (seal : List ℕ → ℕ) (P : ℕ) (c : List ℕ) (n : ℕ) (tip : List ℕ) → length (sealed_prefix seal P c) < n → sealed_prefix seal P c ≡ take (length (sealed_prefix seal P c)) (data_from P (view c) 0 n ++ tip)
-own_front seal P c n tip less = ext_get_or 0 (sealed_prefix seal P c) (take (length (sealed_prefix seal P c)) (data_from P (view c) 0 n ++ tip))
+prefix_own : (seal : List ℕ → ℕ) (P : ℕ) (c : List ℕ) (n : ℕ) (tip : List ℕ) → length (sealed_prefix seal P c) < n → sealed_prefix seal P c ≡ take (length (sealed_prefix seal P c)) (data_from P (view c) 0 n ++ tip)
+prefix_own seal P c n tip less = ext_get_or 0 (sealed_prefix seal P c) (take (length (sealed_prefix seal P c)) (data_from P (view c) 0 n ++ tip))
     (omega (arith, length-take (length (sealed_prefix seal P c)) (data_from P (view c) 0 n ++ tip), length-append (data_from P (view c) 0 n) tip, length-data_from P (view c) n 0, less))
     (λ i lt. (let near : i < n = omega (arith, lt, less) in
     ap (λ (l : List ℕ). get_or l i 0) (own_prefix seal P c).is
@@ -367,9 +367,9 @@ own_front seal P c n tip less = ext_get_or 0 (sealed_prefix seal P c) (take (len
 pub unrecovered_prefix : (seal : List ℕ → ℕ) (u : Buffer) (b : Blob) → 1 ≤ u.page_size → IsUnrecovered seal u b → HasPrefix seal u.page_size (sealed_prefix seal u.page_size b.content) b
     × (length (sealed_prefix seal u.page_size b.content) < u.first * u.page_size) × (sealed_prefix seal u.page_size b.content ≡ take (length (sealed_prefix seal u.page_size b.content)) (bytes_of u b.content))
 unrecovered_prefix seal u b pos un = (
-  front_prefix seal u.page_size un.page b.content b (front_long seal u.page_size un.page (length b.content) un.front.long) un.short un.front,
+  prefix_from_below seal u.page_size un.page b.content b (prefix_long seal u.page_size un.page (length b.content) un.prefix.long) un.short un.prefix,
   prefix_short seal u b pos un,
-  own_front seal u.page_size b.content (u.first * u.page_size) u.tip (prefix_short seal u b pos un),
+  prefix_own seal u.page_size b.content (u.first * u.page_size) u.tip (prefix_short seal u b pos un),
 )
 
 -- a buffer whose pages below the tip's are all full is sealed

@@ -19,7 +19,7 @@ use Rattle.sealed_pages.specs.Reading.{Unchanged}
 use Rattle.sealed_pages.specs.SealedPrefix.{sealed_prefix}
 use Rattle.sealed_pages.specs.SlotNames.{is_b}
 use Rattle.sealed_pages.specs.Slots.{slot_length, page_length, best_slot, slot_bytes}
-use Rattle.sealed_pages.specs.Unrecovered.{SparesFront}
+use Rattle.sealed_pages.specs.Unrecovered.{SparesPrefix}
 use Rattle.sealed_pages.specs.View.{page_at, slot_at}
 
 module _ {D : Type 0} (dev : device.Ghosts D) (seal : List ℕ → ℕ) (P : ℕ) (blob : Key)
@@ -54,7 +54,7 @@ module _ {D : Type 0} (dev : device.Ghosts D) (seal : List ℕ → ℕ) (P : ℕ
     -- no other blob changes
     pub alone : dev.Tells → Alone blob early late
     -- those pages stand as they did
-    pub front : dev.Tells → SparesFront (page_at P page) blob early late
+    pub prefix : dev.Tells → SparesPrefix (page_at P page) blob early late
     -- the opened list has its length
     pub length : OnOk result (IsOpenAt (dev.opened new) blob (page_at P page))
     -- no read began, and no other entry changed
@@ -76,7 +76,7 @@ module _ {D : Type 0} (dev : device.Ghosts D) (seal : List ℕ → ℕ) (P : ℕ
     -- no other blob changes
     pub alone : dev.Tells → Alone blob early late
     -- those pages stand as they did
-    pub front : dev.Tells → SparesFront (page_at P page) blob early late
+    pub prefix : dev.Tells → SparesPrefix (page_at P page) blob early late
     -- the opened list has its length
     pub length : IfOk result (λ n. IsOpenAt (dev.opened new) blob n)
     -- no read began, and no other entry changed
@@ -101,7 +101,7 @@ module _ {D : Type 0} (dev : device.Ghosts D) (seal : List ℕ → ℕ) (P : ℕ
     -- no other blob changes
     pub alone : dev.Tells → Alone blob early late
     -- the pages before stand as they did
-    pub front : dev.Tells → SparesFront (page_at P page) blob early late
+    pub prefix : dev.Tells → SparesPrefix (page_at P page) blob early late
     -- the opened list has its length
     pub length : IfOk result (λ n. IsOpenAt (dev.opened new) blob n)
     -- no read began, and no other entry changed
@@ -125,7 +125,7 @@ module _ {D : Type 0} (dev : device.Ghosts D) (seal : List ℕ → ℕ) (P : ℕ
     -- no other blob changes
     pub alone : dev.Tells → Alone blob early late
     -- the pages before stand as they did
-    pub front : dev.Tells → SparesFront (page_at P page) blob early late
+    pub prefix : dev.Tells → SparesPrefix (page_at P page) blob early late
     -- the opened list has its length
     pub length : IfOk result (λ n. IsOpenAt (dev.opened new) blob n)
     -- no read began, and no other entry changed
@@ -151,7 +151,7 @@ module _ {D : Type 0} (dev : device.Ghosts D) (seal : List ℕ → ℕ) (P : ℕ
     -- no other blob changes
     pub alone : dev.Tells → Alone blob early late
     -- the pages before stand as they did
-    pub front : dev.Tells → SparesFront (page_at P page) blob early late
+    pub prefix : dev.Tells → SparesPrefix (page_at P page) blob early late
     -- the opened list has its length
     pub length : IfOk result (λ n. IsOpenAt (dev.opened new) blob n)
     -- no read began, and no other entry changed

@@ -14,7 +14,7 @@ use Rattle.sealed_pages.specs.Flushing.{Alone, Data}
 use Rattle.sealed_pages.specs.Reading.{Unchanged}
 use Rattle.sealed_pages.specs.SealedPrefix.{adopted_size}
 use Rattle.sealed_pages.specs.Slots.{page_length}
-use Rattle.sealed_pages.specs.Unrecovered.{blob_of, prefix_of, SparesFront}
+use Rattle.sealed_pages.specs.Unrecovered.{blob_of, prefix_of, SparesPrefix}
 use Rattle.sealed_pages.specs.View.{view, page_at}
 
 -- the buffer that ends with these bytes of a page, which have settled; its blob ends at `end`
@@ -81,7 +81,7 @@ module _ {D : Type 0} (dev : device.Ghosts D) (seal : List ℕ → ℕ) (u : Buf
     -- no other blob changes
     pub alone : dev.Tells → Alone (key_of u) early late
     -- the pages before stand as they did
-    pub front : dev.Tells → SparesFront (page_at u.page_size page) (key_of u) early late
+    pub prefix : dev.Tells → SparesPrefix (page_at u.page_size page) (key_of u) early late
     -- whatever the slots say: adopting the blob finds no more
     pub shorter : dev.Tells
         → OnOk result (adopted_size seal u.page_size after.content ≤ page * u.page_size)
@@ -125,7 +125,7 @@ module _ {D : Type 0} (dev : device.Ghosts D) (seal : List ℕ → ℕ) (u : Buf
     -- no other blob changes
     pub alone : dev.Tells → Alone (key_of u) early late
     -- the pages before stand as they did
-    pub front : dev.Tells → SparesFront (page_at u.page_size page) (key_of u) early late
+    pub prefix : dev.Tells → SparesPrefix (page_at u.page_size page) (key_of u) early late
     -- whatever the slots say: adopting the blob finds no more
     pub shorter : dev.Tells
         → OnOk result (adopted_size seal u.page_size after.content ≤ page * u.page_size + keep)

@@ -13,7 +13,7 @@ use Rattle.sealed_pages.specs.Cutting.{IsAtRest}
 use Rattle.sealed_pages.specs.Entries.{IsOpenAt, NoReads}
 use Rattle.sealed_pages.specs.Flushing.{Data, Wrote, CoversFrom}
 use Rattle.sealed_pages.specs.Leftover.{Leftover, IsCleared, ClearsFirst, SettlesNothing}
-use Rattle.sealed_pages.specs.Unrecovered.{blob_of, prefix_of, SparesFront, KeepsPrefix, IsUnrecovered}
+use Rattle.sealed_pages.specs.Unrecovered.{blob_of, prefix_of, SparesPrefix, KeepsPrefix, IsUnrecovered}
 use Rattle.sealed_pages.specs.View.{view, page_at, StandsAt}
 
 module _ {D : Type 0} (dev : device.Ghosts D) (seal : List ℕ → ℕ) (u : Buffer) (old new : D) where
@@ -44,7 +44,7 @@ module _ {D : Type 0} (dev : device.Ghosts D) (seal : List ℕ → ℕ) (u : Buf
         → Data u.page_size all (flushed_of u) (view before.content)
         → Wrote u.page_size all (flushed_of u) (key_of u) result early late
     -- the pages below the tip's stand as they did
-    pub front : dev.Tells → SparesFront (page_at u.page_size u.first) (key_of u) early late
+    pub prefix : dev.Tells → SparesPrefix (page_at u.page_size u.first) (key_of u) early late
     -- only the torn slot is written until all is gone for good,
     pub clears : dev.Tells → IsAtRest before → Always early late (OnlyAt (key_of u) (disk early)
         (ClearsFirst seal u.page_size u.first u.from u.newest))
@@ -81,7 +81,7 @@ module _ {D : Type 0} (dev : device.Ghosts D) (seal : List ℕ → ℕ) (u : Buf
         → StandsAt all (u.first * u.page_size) u.tip
         → Wrote u.page_size all (size_of u) (key_of u) result early late
     -- the pages below the tip's stand as they did
-    pub front : dev.Tells → SparesFront (page_at u.page_size u.first) (key_of u) early late
+    pub prefix : dev.Tells → SparesPrefix (page_at u.page_size u.first) (key_of u) early late
     -- nothing settles
     pub stays : dev.Tells → SettlesNothing (key_of u) early late
     -- the blob reads as a content that it has had, if it did before
@@ -121,7 +121,7 @@ module _ {D : Type 0} (dev : device.Ghosts D) (seal : List ℕ → ℕ) (u : Buf
     pub unrecovered : dev.Tells → IsUnrecovered seal u before
         → IfOk result (λ r. IsUnrecovered seal (see r) after)
     -- the pages below the tip's stand as they did
-    pub front : dev.Tells → SparesFront (page_at u.page_size u.first) (key_of u) early late
+    pub prefix : dev.Tells → SparesPrefix (page_at u.page_size u.first) (key_of u) early late
     -- what a crash left in the blob is gone for good before the first byte is written
     pub clears : dev.Tells → IsAtRest before
         → Leftover seal u.page_size before.content u.first u.from u.newest u.behind u.torn

@@ -11,7 +11,7 @@ use Rattle.sealed_pages.specs.Entries.{IsOpenAt, NoReads}
 use Rattle.sealed_pages.specs.Flushing.{Ready, PageFlushed, Data, Wrote, CoversFrom, next_slot}
 use Rattle.sealed_pages.specs.Leftover.{SettlesNothing}
 use Rattle.sealed_pages.specs.Slots.{page_length}
-use Rattle.sealed_pages.specs.Unrecovered.{SparesFront}
+use Rattle.sealed_pages.specs.Unrecovered.{SparesPrefix}
 use Rattle.sealed_pages.specs.View.{view, page_at, StandsAt}
 
 module _ {D : Type 0} (dev : device.Ghosts D) (seal : List ℕ → ℕ) (P : ℕ) (blob : Key)
@@ -49,7 +49,7 @@ module _ {D : Type 0} (dev : device.Ghosts D) (seal : List ℕ → ℕ) (P : ℕ
         → StandsAt all (page * P) bytes
         → OnOk result (length bytes ≤ page_length seal P after.content page)
     -- the pages before stand as they did
-    pub front : dev.Tells → SparesFront (page_at P page) blob early late
+    pub prefix : dev.Tells → SparesPrefix (page_at P page) blob early late
     -- nothing settles
     pub stays : dev.Tells → SettlesNothing blob early late
     -- the blob reads as a content that it has had
@@ -77,7 +77,7 @@ module _ {D : Type 0} (dev : device.Ghosts D) (seal : List ℕ → ℕ) (P : ℕ
         → Data P all (first * P + from) (view before.content) → StandsAt all (first * P) tip
         → OnOk result (CoversFrom seal P after.content first (first * P + length tip))
     -- the pages before stand as they did
-    pub front : dev.Tells → SparesFront (page_at P first) blob early late
+    pub prefix : dev.Tells → SparesPrefix (page_at P first) blob early late
     -- nothing settles
     pub stays : dev.Tells → SettlesNothing blob early late
     -- the blob reads as a content that it has had, if it did before

@@ -12,7 +12,7 @@ use Rattle.sealed_pages.specs.Cutting.{IsAtRest}
 use Rattle.sealed_pages.specs.Entries.{IsOpenAt, NoReads}
 use Rattle.sealed_pages.specs.Flushing.{Kept, IsClean, Removed, PageFlushed, Data, Wrote, no_slot}
 use Rattle.sealed_pages.specs.Leftover.{Leftover, OnlySlot, IsCleared, ClearsFirst}
-use Rattle.sealed_pages.specs.Unrecovered.{SparesFront}
+use Rattle.sealed_pages.specs.Unrecovered.{SparesPrefix}
 use Rattle.sealed_pages.specs.View.{view, page_at, slot_at}
 
 module _ {D : Type 0} (dev : device.Ghosts D) (seal : List ℕ → ℕ) (P : ℕ) (blob : Key)
@@ -46,7 +46,7 @@ module _ {D : Type 0} (dev : device.Ghosts D) (seal : List ℕ → ℕ) (P : ℕ
     pub wrote : dev.Tells → (all : List ℕ) (F : ℕ) → Data P all F (view before.content)
         → F ≤ pages * P → Wrote P all F blob result early late
     -- these pages stand as they did
-    pub front : dev.Tells → SparesFront (page_at P pages) blob early late
+    pub prefix : dev.Tells → SparesPrefix (page_at P pages) blob early late
     -- of a settled blob no byte is written
     pub loose : dev.Tells → (at : ℕ) → IsAtRest before
         → Always early late (OnlyAt blob (disk early) (OnlySlot at))
@@ -76,7 +76,7 @@ module _ {D : Type 0} (dev : device.Ghosts D) (seal : List ℕ → ℕ) (P : ℕ
     pub wrote : dev.Tells → (all : List ℕ) (F : ℕ) → Data P all F (view before.content)
         → Wrote P all F blob result early late
     -- the pages before stand as they did
-    pub front : dev.Tells → SparesFront (page_at P page) blob early late
+    pub prefix : dev.Tells → SparesPrefix (page_at P page) blob early late
     -- no byte is written but those of the slot
     pub loose : dev.Tells → OnlySlot (slot_at P page second) before
         → Always early late (OnlyAt blob (disk early) (OnlySlot (slot_at P page second)))
@@ -101,7 +101,7 @@ module _ {D : Type 0} (dev : device.Ghosts D) (seal : List ℕ → ℕ) (P : ℕ
     pub wrote : dev.Tells → (all : List ℕ) → Data P all (first * P + from) (view before.content)
         → Wrote P all (first * P + from) blob result early late
     -- the pages below the tip's stand as they did
-    pub front : dev.Tells → SparesFront (page_at P first) blob early late
+    pub prefix : dev.Tells → SparesPrefix (page_at P first) blob early late
     -- only the torn slot is written until all is gone for good,
     pub clears : dev.Tells → IsAtRest before
         → Always early late (OnlyAt blob (disk early) (ClearsFirst seal P first from newest))

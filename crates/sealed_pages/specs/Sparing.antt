@@ -32,6 +32,6 @@ Sparing R n key old new = Always old new (OnlyAt key (disk old) (Spares R n (dis
 abbrev pub LooseOnly : (ℕ → Type 0) → Key → Timeline → Timeline → Type 0
 LooseOnly R key old new = Always old new (λ d. (i : ℕ) → R i → Outside (disk old key).loose i → Outside (d key).loose i)
 
--- at each moment, also inside calls of the device, each crash leaves the blob with these bytes at its front; no other blob changes
+-- at each moment, also inside calls of the device, each crash leaves the blob with these bytes at its start; no other blob changes
 abbrev pub Keeping : List ℕ → Key → Timeline → Timeline → Type 0
 Keeping kept key old new = Always old new (OnlyAt key (disk old) (Keeps kept))

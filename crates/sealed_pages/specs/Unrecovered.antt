@@ -20,19 +20,19 @@ abbrev pub prefix_of : (List ℕ → ℕ) → Buffer → Timeline → List ℕ
 prefix_of seal u t = sealed_prefix seal u.page_size (blob_of u t).content
 
 -- the first n bytes are those of v, and outlive each crash
-abbrev pub HasFront : ℕ → View → Blob → Type 0
-HasFront n v b = Guards (λ i. i < n) v b
+abbrev pub HasBytesBelow : ℕ → View → Blob → Type 0
+HasBytesBelow n v b = Guards (λ i. i < n) v b
 
 -- The blob at a moment, where it was `from` before: below this end it reads as before, places past the end as zeros, and is as
 -- long as before; and bytes there that outlived each crash do so.
-pub record FrontOf (end : ℕ) (from b : Blob) : Type 0 where
+pub record SparedPrefix (end : ℕ) (from b : Blob) : Type 0 where
   pub reads : (i : ℕ) → i < end → view b.content i ≡ view from.content i
   pub long : min (length from.content) end ≤ length b.content
-  pub crashes : (n : ℕ) (v : View) → n ≤ end → HasFront n v from → HasFront n v b
+  pub crashes : (n : ℕ) (v : View) → n ≤ end → HasBytesBelow n v from → HasBytesBelow n v b
 
 -- at each moment, also inside calls of the device; no other blob changes
-abbrev pub SparesFront : ℕ → Key → Timeline → Timeline → Type 0
-SparesFront end key old new = Always old new (OnlyAt key (disk old) (FrontOf end (disk old key)))
+abbrev pub SparesPrefix : ℕ → Key → Timeline → Timeline → Type 0
+SparesPrefix end key old new = Always old new (OnlyAt key (disk old) (SparedPrefix end (disk old key)))
 
 module _ (seal : List ℕ → ℕ) (P : ℕ) where
   -- The blob has this sealed prefix as it reads, and so does each crash image, with or without a chance seal.
@@ -53,7 +53,7 @@ pub record IsUnrecovered (seal : List ℕ → ℕ) (u : Buffer) (b : Blob) : Typ
   -- its bytes and all before have settled, and so has the whole sealed prefix
   pub settled : (page + 1) * u.page_size ≤ u.settled
   -- all up to its end outlives each crash
-  pub front : HasFront (page_at u.page_size (page + 1)) (view b.content) b
+  pub prefix : HasBytesBelow (page_at u.page_size (page + 1)) (view b.content) b
   -- what is in memory is as in the blob
   pub backed : IsBacked seal u b.content
   -- where all bytes have settled, so has the blob

@@ -17,7 +17,7 @@ use Rattle.sealed_pages.specs.Reading.{Unchanged}
 use Rattle.sealed_pages.specs.SealedPrefix.{adopted_size}
 use Rattle.sealed_pages.specs.Slots.{page_length}
 use Rattle.sealed_pages.specs.Tails.{LeavesTail}
-use Rattle.sealed_pages.specs.Unrecovered.{blob_of, prefix_of, SparesFront, KeepsPrefix, IsUnrecovered, IsRecovery, IsSafeCut}
+use Rattle.sealed_pages.specs.Unrecovered.{blob_of, prefix_of, SparesPrefix, KeepsPrefix, IsUnrecovered, IsRecovery, IsSafeCut}
 use Rattle.sealed_pages.specs.View.{view, page_at}
 
 module _ {D : Type 0} (dev : device.Ghosts D) (seal : List ℕ → ℕ) (u : Buffer) (old new : D) where
@@ -137,8 +137,8 @@ module _ {D : Type 0} (dev : device.Ghosts D) (seal : List ℕ → ℕ) (u : Buf
     pub unrecovered : dev.Tells → IsUnrecovered seal u before
         → IfOk result (λ r. IsUnrecovered seal (see r) after)
     -- the pages below the tip's stand as they did
-    pub front : dev.Tells
-        → SparesFront (page_at u.page_size u.first) (key_of u) early late
+    pub prefix : dev.Tells
+        → SparesPrefix (page_at u.page_size u.first) (key_of u) early late
     -- no other blob changes
     pub alone : dev.Tells → IsBacked seal u before.content
         → Alone (key_of u) early late
@@ -260,7 +260,7 @@ module _ {D : Type 0} (dev : device.Ghosts D) (seal : List ℕ → ℕ) (u : Buf
         → p * u.page_size + page_length seal u.page_size after.content p < len
     -- the pages below the tip's are as they were before
     pub uncut_pages : dev.Tells → (p : ℕ) → result ≡ Err (InvalidChecksum p)
-        → SparesFront (page_at u.page_size u.first) (key_of u) early late
+        → SparesPrefix (page_at u.page_size u.first) (key_of u) early late
     -- a refused cut leaves all bytes in the blob,
     pub uncut : dev.Tells → IsBacked seal u before.content → (p : ℕ)
         → result ≡ Err (InvalidChecksum p)

@@ -128,7 +128,7 @@ pub struct PageBlob<S: Seal> {
 }
 
 /// Takes the first n bytes away.
-pub fn drop_front(tip: &mut Vec<u8>, n: usize)
+pub fn drop_prefix(tip: &mut Vec<u8>, n: usize)
     requires { n ≤ length tip.old.items }
     ensures { tip.new.items ≡ drop n tip.old.items }
 {
@@ -327,7 +327,7 @@ impl<S: Seal> PageBlob<S> {
             ..
         } = self;
         let cache = cache.put_full(alloc, page_size, first, tip.as_slice())?;
-        drop_front(&mut tip, full * size);
+        drop_prefix(&mut tip, full * size);
         let from = tip.len();
         Ok(PageBlob {
             alloc,

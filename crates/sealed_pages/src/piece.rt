@@ -6,7 +6,7 @@ ghost use Rattle.sealed_pages.specs.Entries.{IsOpenAt};
 ghost use Rattle.sealed_pages.specs.SlotNames.{opened_key};
 
 use crate::open_blob::OpenBlob;
-use crate::reading::read_front;
+use crate::reading::read_prefix;
 use crate::slot::{SLOTS_LEN, page_place};
 use blob_device::{DevError, Device};
 use std::alloc::{AllocError, Global};
@@ -86,7 +86,7 @@ impl Piece {
         let place = page_place(self.page_size, page);
         let most = count as usize * unit;
         let buf = self.bytes.as_mut_slice();
-        self.have = read_front(dev, blob, place, most, buf)?;
+        self.have = read_prefix(dev, blob, place, most, buf)?;
         self.page = page;
         self.count = count;
         Ok(())

@@ -33,7 +33,7 @@ pub fn read_span<D: Device>(
 }
 
 /// As [`read_span`], for so many bytes at most.
-pub fn read_front<D: Device>(
+pub fn read_prefix<D: Device>(
     dev: &mut D,
     blob: &OpenBlob<'_>,
     place: u64,

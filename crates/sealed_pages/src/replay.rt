@@ -7,7 +7,7 @@ ghost use Rattle.sealed_pages.specs.Entries.{IsOpenAt};
 ghost use Rattle.sealed_pages.specs.SlotNames.{opened_key};
 
 use crate::open_blob::OpenBlob;
-use crate::page_blob::drop_front;
+use crate::page_blob::drop_prefix;
 use crate::piece::Piece;
 use crate::slot::covered_len;
 use blob_device::{Device, RError};
@@ -149,7 +149,7 @@ impl<S: Seal> PageReplay<S> {
     fn let_go(&mut self)
         ensures { reading self.new ≡ reading self.old }
     {
-        drop_front(&mut self.held, self.used);
+        drop_prefix(&mut self.held, self.used);
         self.used = 0;
     }
 

@@ -165,7 +165,7 @@ module _ {F S : Type 0} {gs : _} (seal : List ℕ → ℕ) (j : Lists F (PageBlo
         (d cut_key)
     -- of one that owes a replay it leaves a prefix of its sealed prefix as it read, with all of
     -- that, up to the cut
-    pub front : (u : PageBlob S gs) → j.sections.held section ≡ Some u
+    pub prefix : (u : PageBlob S gs) → j.sections.held section ≡ Some u
         → IsTrue (j.unrecovered section)
         → Leaves seal u.page_size (sealed_prefix seal u.page_size (from cut_key).content)
         (min n (length (sealed_prefix seal u.page_size (from cut_key).content))) (d cut_key)

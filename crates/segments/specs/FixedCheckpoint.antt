@@ -53,7 +53,7 @@ module _ (seal : List ℕ → ℕ) (P size : ℕ) (partition : List ℕ) (at byt
     pub wanted : x.wanted ≡ whole_of size (boundary_at s)
 
   -- The boundary is the checkpoint's own, above 0, and there is no blob.
-  pub record IsMissing (s : ℕ) (x : Damage) : Type 0 where
+  pub record IsCheckpointMissing (s : ℕ) (x : Damage) : Type 0 where
     pub own : s ≡ at
     pub some : 0 < bytes
     pub absent : (d (section_key partition s)).there ≡ false
@@ -63,7 +63,7 @@ module _ (seal : List ℕ → ℕ) (P size : ℕ) (partition : List ℕ) (at byt
     pub wanted : x.wanted ≡ bytes
 
   -- The sealed prefix of the section's blob ends before the boundary.
-  pub record IsUnsealed (s : ℕ) (x : Damage) : Type 0 where
+  pub record IsCheckpointUnsealed (s : ℕ) (x : Damage) : Type 0 where
     pub there : IsTrue (d (section_key partition s)).there
     -- that prefix is kept
     pub kept : x.kept ≡ length (sealed_prefix seal P (d (section_key partition s)).content)
@@ -72,8 +72,8 @@ module _ (seal : List ℕ → ℕ) (P size : ℕ) (partition : List ℕ) (at byt
     pub less : x.kept < x.wanted
 
   -- why the section is refused
-  abbrev pub IsRefused : ℕ → Damage → Type 0
-  IsRefused s x = IsPartial s x ⊎ (IsMissing s x ⊎ IsUnsealed s x)
+  abbrev pub IsCheckpointRefused : ℕ → Damage → Type 0
+  IsCheckpointRefused s x = IsPartial s x ⊎ (IsCheckpointMissing s x ⊎ IsCheckpointUnsealed s x)
 
   -- All that the checkpoint keeps of the section is sealed, and is whole items.
   pub record IsKept (s : ℕ) : Type 0 where
@@ -97,7 +97,7 @@ module _ (seal : List ℕ → ℕ) (P size : ℕ) (partition : List ℕ) (at byt
           → bytes ≤ length (sealed_prefix seal P (d (section_key partition s)).content)
 
   -- The last item below the section's boundary is none: its bytes are refused with e.
-  pub record IsRefusedItem (refusal : List ℕ → Unit {0} → Option codec.Error) (s : ℕ)
+  pub record IsCheckpointItemRefused (refusal : List ℕ → Unit {0} → Option codec.Error) (s : ℕ)
       (e : codec.Error) : Type 0 where
     pub some : 0 < boundary_at s
     -- matching slots cover it
@@ -237,12 +237,12 @@ module _ {A : Type 0} (seal : List ℕ → ℕ) (P size : ℕ) (partition : List
       -- the damage is that of the first section that is refused
       pub damage : dev.Tells → (x : Damage) → IsErrOf result (Corruption x)
           → IsUnder seal P size partition at bytes (disk (dev.time old)) x.section
-          × IsRefused seal P size partition at bytes (disk (dev.time old)) x.section x
+          × IsCheckpointRefused seal P size partition at bytes (disk (dev.time old)) x.section x
           × PassesBelow x.section
       -- so is the codec's error
       pub refused : dev.Tells → (e : codec.Error) → IsErrOf result (Codec e) → (s : ℕ)
           × IsUnder seal P size partition at bytes (disk (dev.time old)) s
-          × IsRefusedItem seal P size partition at bytes (disk (dev.time old)) refusal s e
+          × IsCheckpointItemRefused seal P size partition at bytes (disk (dev.time old)) refusal s e
           × PassesBelow s
       -- faults are counted on
       pub faults : dev.faults old ≤ dev.faults new
@@ -269,7 +269,7 @@ module _ {A : Type 0} (seal : List ℕ → ℕ) (P size : ℕ) (partition : List
       -- the damage is that of a section with a boundary
       pub damage : dev.Tells → (x : Damage) → IsErrOf result (Corruption x)
           → IsUnder seal P size partition at bytes (disk (dev.time old)) x.section
-          × IsRefused seal P size partition at bytes (disk (dev.time old)) x.section x
+          × IsCheckpointRefused seal P size partition at bytes (disk (dev.time old)) x.section x
       -- the first that is refused, where the checkpoint ends behind an item
       pub first : dev.Tells → bytes % size ≡ 0 → (x : Damage) → IsErrOf result (Corruption x)
           → PassesBelow x.section
@@ -281,7 +281,7 @@ module _ {A : Type 0} (seal : List ℕ → ℕ) (P size : ℕ) (partition : List
       -- refused
       pub refused : dev.Tells → (e : codec.Error) → IsErrOf result (Codec e) → (s : ℕ)
           × IsUnder seal P size partition at bytes (disk (dev.time old)) s
-          × IsRefusedItem seal P size partition at bytes (disk (dev.time old)) refusal s e
+          × IsCheckpointItemRefused seal P size partition at bytes (disk (dev.time old)) refusal s e
           × PassesBelow s
       -- the list of opened blobs changes for sections up to the checkpoint alone
       pub entries : (q : Key) → ((s : ℕ) → s ≤ at → q ≢ section_key partition s) → dev.opened new q
@@ -301,7 +301,7 @@ module _ {F S : Type 0} {gs : _} (g : buffer.Ghosts (PageBlob S gs)) (gives : F 
   module _ {D : Type 0} (dev : device.Ghosts D) (j : Lists F (PageBlob S gs))
       (result : Result (Lists F (PageBlob S gs)) Error) (old new : D) where
     -- Where markers were checked the journal is given as it was opened.
-    pub record Gives : Type 0 where
+    pub record GivesCheckpoint : Type 0 where
       -- it is that one
       pub same : IfOk result (λ k. k ≡ j)
       -- no call of the device is made
@@ -351,5 +351,5 @@ module _ {F S : Type 0} {gs : _} (g : buffer.Ghosts (PageBlob S gs)) (gives : F 
 
     -- What `finish` does, by what was checked.
     abbrev pub Finishes : Option Target → Type 0
-    Finishes None = Gives
+    Finishes None = GivesCheckpoint
     Finishes (Some t) = Restores t

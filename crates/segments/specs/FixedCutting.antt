@@ -77,7 +77,7 @@ module _ {F S D : Type 0} {gs : _} (g : buffer.Ghosts (PageBlob S gs)) (gives : 
         (min u.settled n) key_here (dev.time old) (dev.time new)
     -- of one that owes a replay it leaves a prefix of its sealed prefix as it reads, with all of
     -- that, up to the cut
-    pub front : dev.Tells → (u : PageBlob S gs) → j.sections.held section ≡ Some u
+    pub prefix : dev.Tells → (u : PageBlob S gs) → j.sections.held section ≡ Some u
         → IsTrue (j.unrecovered section)
         → Sealing seal u.page_size (prefix_here u) (min n (length (prefix_here u)))
         key_here (dev.time old) (dev.time new)

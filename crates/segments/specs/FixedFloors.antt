@@ -33,8 +33,8 @@ pub record Floors (A : Type 0) : Type 0 where
   pub boundary_of : ℕ → Option (Option A)
   pub target : Option Target
 
-abbrev pub shown : {A S : Type 0} {fixed codec seal : _} → Preflight A S fixed codec seal → Floors A
-shown p = record {
+abbrev pub preflight_shown : {A S : Type 0} {fixed codec seal : _} → Preflight A S fixed codec seal → Floors A
+preflight_shown p = record {
   partition = string_bytes p.journal.manager.partition;
   pages = p.journal.manager.factory.pages;
   write_buffer = p.journal.manager.factory.write_buffer;

@@ -23,7 +23,7 @@ pub record Settling {F S : Type 0} {gs : _} (seal : List ℕ → ℕ) (j : Lists
   pub named : (s : ℕ) (u : PageBlob S gs) → IsNamed s → j.sections.held s ≡ Some u
       → IsSealed seal (shown u) (from q) → q ≡ key_of j.sections s
       → Leaves seal u.page_size (bytes_of (shown u) (from q).content) u.settled b
-  pub front : (s : ℕ) (u : PageBlob S gs) → IsNamed s → j.sections.held s ≡ Some u
+  pub prefix : (s : ℕ) (u : PageBlob S gs) → IsNamed s → j.sections.held s ≡ Some u
       → IsUnrecovered seal (shown u) (from q) → q ≡ key_of j.sections s
       → Leaves seal u.page_size (sealed_prefix seal u.page_size (from q).content)
       (length (sealed_prefix seal u.page_size (from q).content)) b

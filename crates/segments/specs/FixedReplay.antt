@@ -306,7 +306,7 @@ module _ {S : Type 0} {gs : _} where
         → w.journal.unrecovered s ≡ false → IsSealed seal (shown u) (from q) → q
         ≡ key_of w.journal.sections s
         → Leaves seal u.page_size (bytes_of (shown u) (from q).content) u.settled b
-    pub front : (s : ℕ) (u : PageBlob S gs) → w.journal.sections.held s ≡ Some u
+    pub prefix : (s : ℕ) (u : PageBlob S gs) → w.journal.sections.held s ≡ Some u
         → w.journal.unrecovered s ≡ false → IsUnrecovered seal (shown u) (from q) → q
         ≡ key_of w.journal.sections s
         → Leaves seal u.page_size (sealed_prefix seal u.page_size (from q).content)

@@ -1,2 +1,2 @@
-pub mod VarintFront
+pub mod VarintPrefix
 pub mod VarintLemmas

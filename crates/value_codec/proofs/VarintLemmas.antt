@@ -1,4 +1,4 @@
--- Varints: what a front of bytes that go on says of the number, and that each number has one spelling.
+-- Varints: what a prefix of bytes that go on says of the number, and that each number has one spelling.
 use Rattle.std.proofs.Common.{◌≡◌, ℕ, zero, suc, ◌+◌, ◌-◌, ◌*◌, ◌/◌, ◌%◌, ◌^◌, ◌<◌, ◌≤◌, List, [], ◌∷◌, ◌++◌, All, length, take, drop, get_or, arith, refl, sym, ap, ◌∙◌, subst, ◌⊎◌, inl, inr, pow_pos, mul-pos, mul_assoc, mul_left_comm, add-one, add-mul, mul-le-mul_right, mul_comm, append_assoc, length-take-le, take_all, take-take, take-append-drop, Fits, w64, Result, Ok, Err, IfOk, IfErr}
 use Rattle.std.proofs.lemmas.Bool.{cases_lt}
 use Rattle.std.proofs.lemmas.Bool.Decides.{nat_tests}
@@ -52,23 +52,23 @@ still_some [] high n pos is some = omega arith
 still_some (x ∷ xs) high n pos is some = some (omega arith)
 
 -- the varint of a number behind bytes that go on
-pub front_joined : (xs tail : List ℕ) (high : ℕ) → GoesOn xs → IsVarint tail high → (0 < length xs → 0 < high)
+pub prefix_joined : (xs tail : List ℕ) (high : ℕ) → GoesOn xs → IsVarint tail high → (0 < length xs → 0 < high)
     → IsVarint (xs ++ tail) (low_bits xs + 2 ^ (7 * length xs) * high)
-front_joined [] tail high on spelled pos = let whole : high ≡ 0 + 1 * high = omega arith in subst (IsVarint tail) whole spelled
-front_joined (b ∷ xs) tail high on spelled pos =
+prefix_joined [] tail high on spelled pos = let whole : high ≡ 0 + 1 * high = omega arith in subst (IsVarint tail) whole spelled
+prefix_joined (b ∷ xs) tail high on spelled pos =
     let some : 0 < high = pos (omega arith) in
     let worth = worth_more (length xs) high in
     let above : 0 < 2 ^ (7 * length xs) * high = mul-pos (pow_pos (7 * length xs)) some in
     joined b (xs ++ tail) _ (low_bits xs + 2 ^ (7 * length xs) * high) on.0 on.1 (omega arith) (omega (arith, worth, on.0))
-    (front_joined xs tail high on.2 spelled (λ _. some))
+    (prefix_joined xs tail high on.2 spelled (λ _. some))
 
 -- and back: what follows bytes that go on
-pub front_parted : (xs tail : List ℕ) (n : ℕ) → GoesOn xs → IsVarint (xs ++ tail) n
+pub prefix_parted : (xs tail : List ℕ) (n : ℕ) → GoesOn xs → IsVarint (xs ++ tail) n
     → (high : ℕ) × (0 < length xs → 0 < high) × (n ≡ low_bits xs + 2 ^ (7 * length xs) * high) × IsVarint tail high
-front_parted [] tail n on spelled = (n, (λ some. absurd (omega arith)), omega arith, spelled)
-front_parted (b ∷ xs) tail n on spelled =
+prefix_parted [] tail n on spelled = (n, (λ some. absurd (omega arith)), omega arith, spelled)
+prefix_parted (b ∷ xs) tail n on spelled =
     let first = parted b (xs ++ tail) n on.0 spelled in
-    let rest = front_parted xs tail first.0 on.2 first.3 in
+    let rest = prefix_parted xs tail first.0 on.2 first.3 in
     let worth = worth_more (length xs) rest.0 in
     (rest.0, (λ _. still_some xs rest.0 first.0 first.1 rest.2 rest.1), omega (arith, worth, on.0, first.2, rest.2), rest.3)
 
@@ -93,17 +93,17 @@ GoesOn-take (suc k) [] on = tt
 GoesOn-take (suc k) (x ∷ xs) on = (on.0, on.1, GoesOn-take k xs on.2)
 
 -- no varint begins another
-pub one_front : (a b x y : List ℕ) (m n : ℕ) → IsVarint a m → IsVarint b n → a ++ x ≡ b ++ y → (a ≡ b) × (m ≡ n)
-one_front [] b x y m n left right same = absurd left
-one_front (p ∷ a) [] x y m n left right same = absurd right
-one_front (p ∷ []) (q ∷ []) x y m n left right same =
+pub one_prefix : (a b x y : List ℕ) (m n : ℕ) → IsVarint a m → IsVarint b n → a ++ x ≡ b ++ y → (a ≡ b) × (m ≡ n)
+one_prefix [] b x y m n left right same = absurd left
+one_prefix (p ∷ a) [] x y m n left right same = absurd right
+one_prefix (p ∷ []) (q ∷ []) x y m n left right same =
     let first : p ≡ q = cc in (ap (λ z. z ∷ []) first, left.1 ∙ first ∙ sym right.1)
-one_front (p ∷ []) (q ∷ s ∷ b) x y m n left right same = let first : p ≡ q = cc in absurd (omega (arith, left.0, right.0))
-one_front (p ∷ r ∷ a) (q ∷ []) x y m n left right same = let first : p ≡ q = cc in absurd (omega (arith, left.0, right.0))
-one_front (p ∷ r ∷ a) (q ∷ s ∷ b) x y m n left right same =
+one_prefix (p ∷ []) (q ∷ s ∷ b) x y m n left right same = let first : p ≡ q = cc in absurd (omega (arith, left.0, right.0))
+one_prefix (p ∷ r ∷ a) (q ∷ []) x y m n left right same = let first : p ≡ q = cc in absurd (omega (arith, left.0, right.0))
+one_prefix (p ∷ r ∷ a) (q ∷ s ∷ b) x y m n left right same =
     let first : p ≡ q = cc in
     let rest : (r ∷ a) ++ x ≡ (s ∷ b) ++ y = cc in
-    let ih = one_front (r ∷ a) (s ∷ b) x y left.2 right.2 left.5 right.5 rest in
+    let ih = one_prefix (r ∷ a) (s ∷ b) x y left.2 right.2 left.5 right.5 rest in
     (λ i. first i ∷ ih.0 i, omega (arith, first, ih.1, left.4, right.4))
 
 within_short : (more n : ℕ) → n < 128 → varint_within (suc more) n ≡ n ∷ []
@@ -212,8 +212,8 @@ narrow k room is full =
 narrower : (k room : ℕ) → room + 1 ≡ 2 ^ (7 + k) → room / 128 + 1 ≡ 2 ^ k
 narrower k room is = omega (arith, pow-add 2 7 k)
 
-front_more : (bytes : List ℕ) (at b : ℕ) → at < length bytes → get_or bytes at 0 ≡ b → take (at + 1) bytes ≡ take at bytes ++ b ∷ []
-front_more bytes at b inside here = rw add-one (take-suc bytes at 0 inside ∙ ap (λ z. take at bytes ++ z ∷ []) here)
+prefix_more : (bytes : List ℕ) (at b : ℕ) → at < length bytes → get_or bytes at 0 ≡ b → take (at + 1) bytes ≡ take at bytes ++ b ∷ []
+prefix_more bytes at b inside here = rw add-one (take-suc bytes at 0 inside ∙ ap (λ z. take at bytes ++ z ∷ []) here)
 
 -- at the start nothing is read
 pub read_start : (bits : ℕ) (bytes : List ℕ) → 0 < bits → bits ≤ 64 → IsReadTo bits bytes 0 0 ((2 ^ 64 - 1) / 2 ^ (64 - bits))
@@ -228,12 +228,12 @@ read_start bits bytes some fits = record {
 pub read_more : (bits : ℕ) (bytes : List ℕ) (at value room b : ℕ) → IsReadTo bits bytes at value room → at < length bytes → get_or bytes at 0 ≡ b
     → 128 ≤ b → b < 256 → 128 ≤ room → IsReadTo bits bytes (at + 1) (value + (b - 128) * 2 ^ (7 * at)) (room / 128)
 read_more bits bytes at value room b so_far inside here more byte fits = record {
-  goes_on = subst GoesOn (sym (front_more bytes at b inside here)) (GoesOn-last (take at bytes) b so_far.goes_on more byte);
+  goes_on = subst GoesOn (sym (prefix_more bytes at b inside here)) (GoesOn-last (take at bytes) b so_far.goes_on more byte);
   worth =
       ap (λ z. z + (b - 128) * 2 ^ (7 * at)) so_far.worth
       ∙ ap (λ z. low_bits (take at bytes) + (b - 128) * 2 ^ (7 * z)) (sym (length-take-le at bytes (omega arith)))
       ∙ sym (low_bits-last (take at bytes) b)
-      ∙ ap low_bits (sym (front_more bytes at b inside here));
+      ∙ ap low_bits (sym (prefix_more bytes at b inside here));
   left =
       let seven = wide (bits - 7 * at) room so_far.left fits in
       let split : bits - 7 * at ≡ 7 + (bits - 7 * (at + 1)) = omega arith in
@@ -261,12 +261,12 @@ read_last bits bytes at value room b so_far inside here last fits some = record 
   within = omega arith;
   spelled =
       let at_is = length-take-le at bytes (omega arith) in
-      let front = front_joined (take at bytes) (b ∷ []) b so_far.goes_on (last, refl) (λ h. some (omega arith)) in
+      let prefix = prefix_joined (take at bytes) (b ∷ []) b so_far.goes_on (last, refl) (λ h. some (omega arith)) in
       let worth : low_bits (take at bytes) + 2 ^ (7 * length (take at bytes)) * b ≡ value + b * 2 ^ (7 * at) =
       ap (λ z. low_bits (take at bytes) + 2 ^ (7 * z) * b) at_is
       ∙ ap (λ z. z + 2 ^ (7 * at) * b) (sym so_far.worth)
       ∙ ap (λ z. value + z) (mul_comm (2 ^ (7 * at)) b) in
-      subst (λ z. IsVarint z (value + b * 2 ^ (7 * at))) (sym (front_more bytes at b inside here)) (subst (IsVarint (take at bytes ++ b ∷ [])) worth front);
+      subst (λ z. IsVarint z (value + b * 2 ^ (7 * at))) (sym (prefix_more bytes at b inside here)) (subst (IsVarint (take at bytes ++ b ∷ [])) worth prefix);
   in_range = sum_fits bits at value b (omega (arith, so_far.before)) (IsReadTo-below bits bytes at value room so_far (omega arith)) (omega (arith, so_far.left));
 }
 
@@ -293,13 +293,13 @@ read_none bits bytes at value room b so_far inside here none n len below spelled
       | inl behind ↦
           let more = take (len - (at + 1)) (drop (at + 1) bytes) in
           let split : at + 1 + (len - (at + 1)) ≡ len = omega arith in
-          let front : take len bytes ≡ take at bytes ++ b ∷ more =
+          let prefix : take len bytes ≡ take at bytes ++ b ∷ more =
           ap (λ z. take z bytes) (sym split)
           ∙ take-add (at + 1) (len - (at + 1)) bytes
-          ∙ ap (λ z. z ++ more) (front_more bytes at b inside here)
+          ∙ ap (λ z. z ++ more) (prefix_more bytes at b inside here)
           ∙ append_assoc (take at bytes) (b ∷ []) more in
           let at_is = length-take-le at bytes (omega arith) in
-          let rest = front_parted (take at bytes) (b ∷ more) n so_far.goes_on (subst (λ z. IsVarint z n) front spelled) in
+          let rest = prefix_parted (take at bytes) (b ∷ more) n so_far.goes_on (subst (λ z. IsVarint z n) prefix spelled) in
           let small : 2 ^ (7 * at) * rest.0 ≤ n = le_of_sum _ _ _ (rest.2 ∙ ap (λ z. low_bits (take at bytes) + 2 ^ (7 * z) * rest.0) at_is) in
           let all : 7 * at + (bits - 7 * at) ≡ bits = omega (arith, so_far.before) in
           let product : 2 ^ (7 * at) * 2 ^ (bits - 7 * at) ≡ 2 ^ bits = sym (pow-add 2 (7 * at) (bits - 7 * at)) ∙ ap (λ z. 2 ^ z) all in
@@ -356,18 +356,18 @@ pub read_gives : (limit longest : ℕ) (bytes : List ℕ) (outcome : Result (ℕ
     → IfErr outcome (IsWhyNone limit longest bytes)
     → ReadsBack limit bytes outcome
 read_gives limit longest bytes (Ok it) found refused n rest below is =
-    let same = one_front (take it.1 bytes) (varint n) (drop it.1 bytes) rest it.0 n found.spelled (varint_spells n) (take-append-drop it.1 bytes ∙ is) in
+    let same = one_prefix (take it.1 bytes) (varint n) (drop it.1 bytes) rest it.0 n found.spelled (varint_spells n) (take-append-drop it.1 bytes ∙ is) in
     let len : it.1 ≡ length (varint n) = sym (length-take-le it.1 bytes found.within) ∙ ap length same.0 in
     λ i. Ok (same.1 i, len i)
 read_gives limit longest bytes (Err e) found refused n rest below is =
-    let front : take (length (varint n)) bytes ≡ varint n = ap (take (length (varint n))) is ∙ take-append_seam (varint n) rest in
-    let spelled : IsVarint (take (length (varint n)) bytes) n = subst (λ z. IsVarint z n) (sym front) (varint_spells n) in
+    let prefix : take (length (varint n)) bytes ≡ varint n = ap (take (length (varint n))) is ∙ take-append_seam (varint n) rest in
+    let spelled : IsVarint (take (length (varint n)) bytes) n = subst (λ z. IsVarint z n) (sym prefix) (varint_spells n) in
     absurd (elim refused [ inl cut ↦ cut_none bytes n _ cut.1.goes_on spelled | inr none ↦ none.1 n _ below spelled ])
 
 -- two numbers' varints with anything behind them
 pub varint_apart : (m n : ℕ) (x y : List ℕ) → varint m ++ x ≡ varint n ++ y → (m ≡ n) × (x ≡ y)
 varint_apart m n x y same =
-    let both = one_front (varint m) (varint n) x y m n (varint_spells m) (varint_spells n) same in
+    let both = one_prefix (varint m) (varint n) x y m n (varint_spells m) (varint_spells n) same in
     (both.1, append_cancel_left (varint n) x y (ap (λ z. z ++ x) (sym both.0) ∙ same))
 
 -- what is left of 64 bits while a byte goes on

@@ -1,4 +1,4 @@
--- A number in little-endian base 128 in its shortest spelling, and which number stands at the front of some bytes.
+-- A number in little-endian base 128 in its shortest spelling, and which number stands at the start of some bytes.
 use Rattle.std.specs.Prelude.{◌≡◌, ℕ, zero, suc, ◌+◌, ◌*◌, ◌/◌, ◌%◌, ◌<◌, ◌≤◌, ◌⊎◌, List, [], ◌∷◌, ◌++◌, All, length, take, nat_lt, nat_le, bytes_eq, ◌&&◌, Bool, Result, Ok, Err, if◌then◌else◌}
 use Rattle.std.specs.List.{list_all}
 use Rattle.value_codec.specs.declared.codec.Error.{Error}
@@ -59,9 +59,9 @@ base128 [] = 0
 base128 (b ∷ bs) = b % 128 + 128 * base128 bs
 
 -- the bytes up to the first that asks for no more
-abbrev pub front : List ℕ → List ℕ
-front [] = []
-front (b ∷ bs) = b ∷ (if nat_lt b 128 then [] else front bs)
+abbrev pub prefix_bytes : List ℕ → List ℕ
+prefix_bytes [] = []
+prefix_bytes (b ∷ bs) = b ∷ (if nat_lt b 128 then [] else prefix_bytes bs)
 
 -- whether there are fewer bytes than the longest varint has, and each asks for one more
 abbrev pub is_cut_short : ℕ → List ℕ → Bool
@@ -71,9 +71,9 @@ is_cut_short longest bytes = nat_lt (length bytes) longest && list_all (nat_le 1
 abbrev pub is_varint : ℕ → List ℕ → Bool
 is_varint limit bytes = nat_lt (base128 bytes) limit && bytes_eq (varint (base128 bytes)) bytes
 
--- the number at the front and how many bytes it takes, or why there is none
-unfoldable pub varint_front : ℕ → ℕ → List ℕ → Result (ℕ × ℕ) Error
-varint_front limit longest bytes =
+-- the number at the start and how many bytes it takes, or why there is none
+unfoldable pub varint_prefix : ℕ → ℕ → List ℕ → Result (ℕ × ℕ) Error
+varint_prefix limit longest bytes =
     if is_cut_short longest bytes then Err EndOfBuffer
-    else if is_varint limit (front bytes) then Ok (base128 (front bytes), length (front bytes))
+    else if is_varint limit (prefix_bytes bytes) then Ok (base128 (prefix_bytes bytes), length (prefix_bytes bytes))
     else Err InvalidVarint

@@ -6,7 +6,7 @@
 //! | Command | What it says |
 //! |---|---|
 //! | `write-varint32 BYTES N`, `write-varint64 BYTES N` | the bytes, and behind them the number's varint |
-//! | `read-varint32 BYTES`, `read-varint64 BYTES` | the number at the front, and how many bytes it takes |
+//! | `read-varint32 BYTES`, `read-varint64 BYTES` | the number at the start, and how many bytes it takes |
 //! | `u64 N`, `i32 N`, `bytes MOST BYTES` | the value's spelling, written behind the byte `ff`, its size, and `again` where it was read; or `not accepted` |
 //! | `read-u64 BYTES`, `read-i32 BYTES`, `read-bytes MOST BYTES` | the value that all the bytes spell |
 //! | `value BYTES` | the bytes of a value of bytes |

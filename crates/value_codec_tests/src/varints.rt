@@ -17,13 +17,13 @@ pub fn written(alloc: Global, step: &Step) -> Result<Said, Stop> {
     Ok(Said::Bytes(out))
 }
 
-/// Reads the number at the front of bytes.
+/// Reads the number at the start of bytes.
 pub fn read(alloc: Global, step: &Step) -> Result<Said, Stop> {
     let bytes = bytes(alloc, step, 0)?;
     if step.word() == "read-varint64" {
         let (number, len) = read_varint64(&bytes)?;
-        return Ok(Said::Front(number, len));
+        return Ok(Said::Prefix(number, len));
     }
     let (number, len) = read_varint32(&bytes)?;
-    Ok(Said::Front(u64::from(number), len))
+    Ok(Said::Prefix(u64::from(number), len))
 }

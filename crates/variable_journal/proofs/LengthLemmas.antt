@@ -1,4 +1,4 @@
--- The length at the front of a frame, as a reader finds it: from five bytes, or from fewer where no more are there.
+-- The length at the start of a frame, as a reader finds it: from five bytes, or from fewer where no more are there.
 use Rattle.std.proofs.Common.{◌≡◌, ◌∙◌, ◌++◌, ◌+◌, ◌<◌, ◌≤◌, ◌^◌, ℕ, List, [], None, Some, Result, Ok, Err, inl, inr, sym, ap, subst, arith, length, drop, take, append_assoc, length-append, length-take, length-drop, take-append-drop}
 use Rattle.std.proofs.lemmas.List.{append-nil, drop-drop, take-append-le}
 use Rattle.value_codec.specs.Varint.{varint, BeginsWithVarint, IsVarint, IsWhyNone, ReadsBack}
@@ -11,10 +11,10 @@ use Rattle.variable_journal.specs.Reading.{IsPastLast, Measures}
 use Rattle.variable_journal.proofs.FrameLemmas.{bad_of, none_extends, not_bad, varint_some}
 
 -- a length is there, whatever follows
-pub found_on : (front rest : List ℕ) (n len : ℕ) → BeginsWithVarint (2 ^ 32) front n len → BeginsWithVarint (2 ^ 32) (front ++ rest) n len
-found_on front rest n len begins = record {
-  within = omega (arith, begins.within, length-append front rest);
-  spelled = subst (λ (z : List ℕ). IsVarint z n) (sym (take-append-le len front rest begins.within)) begins.spelled;
+pub found_on : (prefix rest : List ℕ) (n len : ℕ) → BeginsWithVarint (2 ^ 32) prefix n len → BeginsWithVarint (2 ^ 32) (prefix ++ rest) n len
+found_on prefix rest n len begins = record {
+  within = omega (arith, begins.within, length-append prefix rest);
+  spelled = subst (λ (z : List ℕ). IsVarint z n) (sym (take-append-le len prefix rest begins.within)) begins.spelled;
   in_range = begins.in_range;
 }
 
@@ -60,37 +60,37 @@ past_of_none bytes none = record {
     some item = varint_some (length item)
 
 -- fewer than five bytes, in which no length is found
-past_of_few : (front : List ℕ) (result : Result (ℕ × ℕ) codec.Error) (e : codec.Error) → length front < 5 → ReadsBack (2 ^ 32) front result → result ≡ Err e → IsPastLast front
-past_of_few front result e few gives is = record {
+past_of_few : (prefix : List ℕ) (result : Result (ℕ × ℕ) codec.Error) (e : codec.Error) → length prefix < 5 → ReadsBack (2 ^ 32) prefix result → result ≡ Err e → IsPastLast prefix
+past_of_few prefix result e few gives is = record {
   none = λ item rest there. absurd (let read = gives (length item) (item ++ rest) there.fits (there.is ∙ append_assoc (varint (length item)) item rest) in cc (is, read));
   unread = λ bad. absurd (omega (arith, bad.enough, few));
 }
 
-module _ (front rest : List ℕ) (all : length front < 5 → rest ≡ []) where
-  pub measured : (r : ℕ × ℕ) → BeginsWithVarint (2 ^ 32) front r.0 r.1 → Measures (length front) (front ++ rest) (Ok (Some r))
+module _ (prefix rest : List ℕ) (all : length prefix < 5 → rest ≡ []) where
+  pub measured : (r : ℕ × ℕ) → BeginsWithVarint (2 ^ 32) prefix r.0 r.1 → Measures (length prefix) (prefix ++ rest) (Ok (Some r))
   measured r begins = record {
-    found = λ q is. (let same : r ≡ q = cc is in subst (λ (x : ℕ × ℕ). BeginsWithVarint (2 ^ 32) (front ++ rest) x.0 x.1 × (x.1 ≤ length front)) same (found_on front rest r.0 r.1 begins, begins.within));
+    found = λ q is. (let same : r ≡ q = cc is in subst (λ (x : ℕ × ℕ). BeginsWithVarint (2 ^ 32) (prefix ++ rest) x.0 x.1 × (x.1 ≤ length prefix)) same (found_on prefix rest r.0 r.1 begins, begins.within));
     none = λ is. absurd (cc is);
     refused = λ e is. absurd (cc is);
   }
 
-  pub measured_none : (result : Result (ℕ × ℕ) codec.Error) (e : codec.Error) → length front < 5 → ReadsBack (2 ^ 32) front result → result ≡ Err e
-      → Measures (length front) (front ++ rest) (Ok None)
+  pub measured_none : (result : Result (ℕ × ℕ) codec.Error) (e : codec.Error) → length prefix < 5 → ReadsBack (2 ^ 32) prefix result → result ≡ Err e
+      → Measures (length prefix) (prefix ++ rest) (Ok None)
   measured_none result e few gives is = record {
     found = λ q same. absurd (cc same);
-    none = λ same. subst IsPastLast (sym (ap (λ (z : List ℕ). front ++ z) (all few) ∙ append-nil front)) (past_of_few front result e few gives is);
+    none = λ same. subst IsPastLast (sym (ap (λ (z : List ℕ). prefix ++ z) (all few) ∙ append-nil prefix)) (past_of_few prefix result e few gives is);
     refused = λ x same. absurd (cc same);
   }
 
-  pub measured_bad : (e : codec.Error) → 5 ≤ length front → IsWhyNone (2 ^ 32) 5 front e → Measures (length front) (front ++ rest) (Err (raised_codec e))
+  pub measured_bad : (e : codec.Error) → 5 ≤ length prefix → IsWhyNone (2 ^ 32) 5 prefix e → Measures (length prefix) (prefix ++ rest) (Err (raised_codec e))
   measured_bad e enough why = record {
     found = λ q same. absurd (cc same);
     none = λ same. absurd (cc same);
-    refused = λ x same. (let is : raised_codec e ≡ x = cc same in (sym is ∙ ap raised_codec (bad_error why), bad_on (bad_of front e enough why)));
+    refused = λ x same. (let is : raised_codec e ≡ x = cc same in (sym is ∙ ap raised_codec (bad_error why), bad_on (bad_of prefix e enough why)));
   }
     where
-      bad_error : IsWhyNone (2 ^ 32) 5 front e → e ≡ InvalidVarint
+      bad_error : IsWhyNone (2 ^ 32) 5 prefix e → e ≡ InvalidVarint
       bad_error reason = elim reason [ inl cut ↦ absurd (omega (arith, enough, cut.1.few)) | inr none ↦ none.0 ]
 
-      bad_on : HasBadLength front → HasBadLength (front ++ rest)
-      bad_on bad = record { enough = omega (arith, bad.enough, length-append front rest); none = none_extends front rest bad.enough bad.none }
+      bad_on : HasBadLength prefix → HasBadLength (prefix ++ rest)
+      bad_on bad = record { enough = omega (arith, bad.enough, length-append prefix rest); none = none_extends prefix rest bad.enough bad.none }

@@ -196,14 +196,14 @@ module _ {S C D : Type 0} {gs : _} (seal : List ℕ → ℕ) (refusal : List ℕ
   }
 
   -- what was found in the first bytes, five or all that there are, holds of all
-  pub measured_at : (front before : List ℕ) (n left : ℕ) (result : Result (Option (ℕ × ℕ)) Error) → left ≡ size_of (shown u) - offset → n ≡ min left 5
-      → length front ≡ n → length front ≡ length before → front ≡ take (length before) there
-      → ((rest : List ℕ) → (length front < 5 → rest ≡ []) → Measures (length front) (front ++ rest) result) → Measures (length front) there result
-  measured_at front before n left result is few long same read all = subst (λ (z : List ℕ). Measures (length front) z result)
+  pub measured_at : (prefix before : List ℕ) (n left : ℕ) (result : Result (Option (ℕ × ℕ)) Error) → left ≡ size_of (shown u) - offset → n ≡ min left 5
+      → length prefix ≡ n → length prefix ≡ length before → prefix ≡ take (length before) there
+      → ((rest : List ℕ) → (length prefix < 5 → rest ≡ []) → Measures (length prefix) (prefix ++ rest) result) → Measures (length prefix) there result
+  measured_at prefix before n left result is few long same read all = subst (λ (z : List ℕ). Measures (length prefix) z result)
       (ap (λ (z : List ℕ). z ++ drop n there) first ∙ take-append-drop n there)
       (all (drop n there) (λ less. drop_all n there (omega (arith, less, long, few, is, there_length))))
     where
-      first : front ≡ take n there
+      first : prefix ≡ take n there
       first = read ∙ ap (λ (k : ℕ). take k there) (sym same ∙ long)
 
   -- past the end there is nothing

@@ -134,6 +134,6 @@ pub settling_held : {F S : Type 0} {gs : _} (seal : List ℕ → ℕ) (j : Lists
 settling_held seal j a b moments = always_weaker a b (Each (Settling seal j (λ s. ⊤) (disk a))) (Each (Settling seal j (IsHeld j.sections) (disk a)))
     (λ d all q. record {
       named = λ s u is. (all q).named s u tt;
-      front = λ s u is. (all q).front s u tt;
+      prefix = λ s u is. (all q).prefix s u tt;
       others = λ never. (all q).others (λ x. never (x.0, (x.1.1, x.1.1, x.1.2), x.2));
     }) moments

@@ -13,11 +13,11 @@ use Rattle.value_codec.specs.Spelling.{size_refusal}
 use Rattle.paired.specs.Kept.{Layout, Markers, MarkerMap, IsMarked, content_at, is_sound_in, marker_of, stored_records}
 use Rattle.paired.specs.OpeningRefusing.{IsSomeRefused}
 use Rattle.paired.specs.Records as stored
-use Rattle.paired.specs.Records.{front}
+use Rattle.paired.specs.Records.{unbroken_prefix}
 use Rattle.paired.specs.Replaying.{Run, is_sound_over, marker, records_given, records_over}
 use Rattle.paired.proofs.KeptLemmas.{stored_entries}
 use Rattle.paired.proofs.opening.Ends.{marked_is, marked_or_zero}
-use Rattle.paired.specs.lemmas.Records.{front-take}
+use Rattle.paired.specs.lemmas.Records.{prefix-take}
 use Rattle.archives.specs.Filing.{Filing, kept_entries}
 use Rattle.archives.specs.IndexRecord.{index_of}
 use Rattle.archives.specs.Lawful.{Lawful}
@@ -61,8 +61,8 @@ module _ (f : Filing) (image : Image) (markers : Markers) where
         let Q : stored.Entry → Type 0 = λ y. section_of f.items (index_of y.stored) ≡ s in
         let all : List (List ℕ) = stored_records f.layout image s in
         let sound = is_sound_in f.layout image s in
-        let some : List (List ℕ) = front sound (marker_of markers.entries s) 0 all in
-        let first : AllByRecursion P some = subst (AllByRecursion P) (sym (front-take sound (marker_of markers.entries s) 0 all)) (all_take P (length some) all (lawful.in_section s small)) in
+        let some : List (List ℕ) = unbroken_prefix sound (marker_of markers.entries s) 0 all in
+        let first : AllByRecursion P some = subst (AllByRecursion P) (sym (prefix-take sound (marker_of markers.entries s) 0 all)) (all_take P (length some) all (lawful.in_section s small)) in
         let again = stored_entries f.layout.place (content_at image f.layout.values s) some in
         let entries : AllByRecursion Q (kept_entries f image markers s) = all_unmap (λ y. y.stored) P (kept_entries f image markers s) (subst (AllByRecursion P) (sym again) first) in
         stray (all_has Q (kept_entries f image markers s) x entries has)
@@ -77,9 +77,9 @@ none_refused run d tracked s e has =
     let P : List ℕ → Type 0 = λ r. size_refusal run.layout.record_size r ≡ None in
     let over : List (List ℕ) = records_over run d s in
     let sound = is_sound_over run d s in
-    let some : List (List ℕ) = front sound (marker run s) 0 over in
+    let some : List (List ℕ) = unbroken_prefix sound (marker run s) 0 over in
     let given : records_given run d s ≡ some = ap (λ b. cond b some over) tracked in
-    let first : AllByRecursion P some = subst (AllByRecursion P) (sym (front-take sound (marker run s) 0 over)) (all_take P (length some) over (all_whole run.layout.record_size _)) in
+    let first : AllByRecursion P some = subst (AllByRecursion P) (sym (prefix-take sound (marker run s) 0 over)) (all_take P (length some) over (all_whole run.layout.record_size _)) in
     let fine : P (get_or (records_given run d s) has.position []) = each_at P (records_given run d s) has.position [] (subst (AllByRecursion P) (sym given) first) has.within in
     let bad = has.refused in
     cc (fine, bad)

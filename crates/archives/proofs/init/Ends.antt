@@ -17,7 +17,7 @@ use Rattle.meta_store.specs.Store.{contents_of}
 use Rattle.paired.specs.Kept.{kept, marker_of}
 use Rattle.paired.specs.Opening.{as_read}
 use Rattle.paired.specs.OpeningFound.{HasFound}
-use Rattle.paired.specs.Records.{front, records}
+use Rattle.paired.specs.Records.{unbroken_prefix, records}
 use Rattle.paired.specs.Replaying.{HasFailed, Run, is_sound_over, marker, records_given, records_over}
 use Rattle.paired.proofs.opening.Ends.{marked_or_zero}
 use Rattle.paired.proofs.reconcile.Resting.{none_of}
@@ -65,9 +65,9 @@ module _ {F S : Type 0} {gs : _} {g : buffer.Ghosts (PageBlob S gs)} {gives : F 
     where
       none_given : (s : ℕ) → run.walk.journal.sections.held s ≡ None → records_given run d s ≡ []
       none_given s none =
-          ap (λ (b : Bool). cond b (front (is_sound_over run d s) (marker run s) 0 (records_over run d s)) (records_over run d s)) e.tracked
-          ∙ ap (λ (x : Option (PageBlob S gs)). front (is_sound_over run d s) (marker run s) 0 (records run.layout.record_size (kept_of run.layout.seal (run.walk.journal.unrecovered s) x (d (key_of run.walk.journal.sections s)).content))) none
-          ∙ ap (front (is_sound_over run d s) (marker run s) 0) (none_of run.layout.record_size e.here.some)
+          ap (λ (b : Bool). cond b (unbroken_prefix (is_sound_over run d s) (marker run s) 0 (records_over run d s)) (records_over run d s)) e.tracked
+          ∙ ap (λ (x : Option (PageBlob S gs)). unbroken_prefix (is_sound_over run d s) (marker run s) 0 (records run.layout.record_size (kept_of run.layout.seal (run.walk.journal.unrecovered s) x (d (key_of run.walk.journal.sections s)).content))) none
+          ∙ ap (unbroken_prefix (is_sound_over run d s) (marker run s) 0) (none_of run.layout.record_size e.here.some)
 
 module _ {F S : Type 0} {gs : _} (f : Filing) (readable : IsReadable f.layout.markers) (run walked : Run F (PageBlob S gs)) (a b e : Disk)
     (still : walked.layout ≡ f.layout) (store : walked.store ≡ run.store) (found : HasFound f.layout a b run)

@@ -19,10 +19,10 @@ use Rattle.paired.specs.Opening.{MayBeOpened, as_read}
 use Rattle.paired.specs.OpeningFound.{CountsAll, GivesInPlace, HasKept}
 use Rattle.paired.specs.Pair.{HasNoBytes, IsPair, IsSoundOn, Pair, list_of, records_of}
 use Rattle.paired.specs.Places.{Follow, last_end}
-use Rattle.paired.specs.Records.{entry_of, front, is_sound}
+use Rattle.paired.specs.Records.{entry_of, unbroken_prefix, is_sound}
 use Rattle.paired.specs.Replaying.{Run, is_sound_over, records_given}
 use Rattle.paired.proofs.GlobLemmas.{buffers}
-use Rattle.paired.proofs.opening.Ends.{front_sound, marked_is, marked_or_zero}
+use Rattle.paired.proofs.opening.Ends.{prefix_sound, marked_is, marked_or_zero}
 use Rattle.paired.proofs.pair.Facts.{proven_of}
 use Rattle.paired.proofs.pair.Synced.{Here}
 use Rattle.paired.proofs.reconcile.Kept.{sound_longer}
@@ -132,8 +132,8 @@ module _ {F S : Type 0} {gs : _} {g : buffer.Ghosts (PageBlob S gs)} {gives : F 
         let l = arch.pair.layout in
         let rs : List (List ℕ) = records_of arch.pair z s in
         sym (
-        (λ i. map (entry_of l.place (values_at rests.parts t s small i)) (front (λ r. is_sound l.seal (values_at rests.parts t s small i) (l.place r)) (marker_of markers.entries s) 0 (stored_at rests t s small i)))
-        ∙ ap (map (entry_of l.place (values_now s))) (front_sound (λ r. is_sound l.seal (values_now s) (l.place r)) (marker_of markers.entries s) 0 rs (all_sound s small))
+        (λ i. map (entry_of l.place (values_at rests.parts t s small i)) (unbroken_prefix (λ r. is_sound l.seal (values_at rests.parts t s small i) (l.place r)) (marker_of markers.entries s) 0 (stored_at rests t s small i)))
+        ∙ ap (map (entry_of l.place (values_now s))) (prefix_sound (λ r. is_sound l.seal (values_now s) (l.place r)) (marker_of markers.entries s) 0 rs (all_sound s small))
         )
 
   -- ---- the archive

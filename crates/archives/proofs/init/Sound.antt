@@ -20,10 +20,10 @@ use Rattle.paired.specs.Opening.{as_read}
 use Rattle.paired.specs.Pair.{AreApart, IsSoundOn, list_of, records_of, synced_length}
 use Rattle.paired.specs.Places.{Follow, end_of}
 use Rattle.paired.specs.Records as stored
-use Rattle.paired.specs.Records.{front, is_sound, records}
+use Rattle.paired.specs.Records.{unbroken_prefix, is_sound, records}
 use Rattle.paired.proofs.KeptLemmas.{stored_entries}
 use Rattle.paired.proofs.opening.Ends.{follow_first}
-use Rattle.paired.specs.lemmas.Records.{front-take}
+use Rattle.paired.specs.lemmas.Records.{prefix-take}
 use Rattle.archives.specs.Archives.{Archive, LeavesNoForeign, filing_of, state_of}
 use Rattle.archives.specs.Filing.{Filing, filed, kept_entries}
 use Rattle.archives.specs.IndexRecord.{index_of}
@@ -46,13 +46,13 @@ module _ (f : Filing) (image : Image) (markers : Markers) (lawful : Lawful f ima
   entries s = kept_entries f image markers s
 
   abbrev firsts : ℕ → List (List ℕ)
-  firsts s = front (is_sound_in f.layout image s) (marker_of markers.entries s) 0 (stored_records f.layout image s)
+  firsts s = unbroken_prefix (is_sound_in f.layout image s) (marker_of markers.entries s) 0 (stored_records f.layout image s)
 
   again : (s : ℕ) → map (λ e. e.stored) (entries s) ≡ firsts s
   again s = stored_entries f.layout.place (content_at image f.layout.values s) (firsts s)
 
   are_first : (s : ℕ) → firsts s ≡ take (length (firsts s)) (stored_records f.layout image s)
-  are_first s = front-take (is_sound_in f.layout image s) (marker_of markers.entries s) 0 (stored_records f.layout image s)
+  are_first s = prefix-take (is_sound_in f.layout image s) (marker_of markers.entries s) 0 (stored_records f.layout image s)
 
   followed : (s : ℕ) (small : s < 2 ^ 64) → (end_of f.layout.place 0 (firsts s) ≤ (lawful.pair.places s small).end) × Follow f.layout.place 0 (firsts s) (end_of f.layout.place 0 (firsts s))
   followed s small =

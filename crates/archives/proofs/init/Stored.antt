@@ -24,7 +24,7 @@ use Rattle.segments.proofs.adding.WriteLemmas.{ArePages}
 use Rattle.paired.specs.glob.Sections as glob
 use Rattle.paired.specs.Kept.{content_at, stored_records}
 use Rattle.paired.specs.Opening.{as_read}
-use Rattle.paired.specs.Records.{front, records}
+use Rattle.paired.specs.Records.{unbroken_prefix, records}
 use Rattle.paired.specs.Replaying.{HasFailed, IsOpeningRun, IsRun, LeftAtMost, Run, is_sound_over, marker, pair_of, records_given, records_over}
 use Rattle.paired.proofs.GlobLemmas.{buffers, idle_whole}
 use Rattle.paired.proofs.pair.Facts.{not_there}
@@ -91,8 +91,8 @@ module _ {F S : Type 0} {gs : _} {g : buffer.Ghosts (PageBlob S gs)} {gives : F 
 
   pub given_none : (s : ℕ) → run.walk.journal.sections.held s ≡ None → records_given run d s ≡ []
   given_none s none =
-      ap (λ (b : Bool). cond b (front (is_sound_over run d s) (marker run s) 0 (records_over run d s)) (records_over run d s)) tracked
-      ∙ ap (front (is_sound_over run d s) (marker run s) 0) (over_none s none)
+      ap (λ (b : Bool). cond b (unbroken_prefix (is_sound_over run d s) (marker run s) 0 (records_over run d s)) (records_over run d s)) tracked
+      ∙ ap (unbroken_prefix (is_sound_over run d s) (marker run s) 0) (over_none s none)
 
   -- what owes a replay is what is stored; of what owes none there are no more records than the marker says
   few_free : (s : ℕ) (u : PageBlob S gs) → run.walk.journal.sections.held s ≡ Some u → run.walk.journal.unrecovered s ≡ false → length (records_over run d s) ≤ marker run s

@@ -27,55 +27,55 @@ use Rattle.segments.proofs.replay.Kept.{covered_length, flushed_data, prefix_dat
 use Rattle.segments.proofs.adding.WriteLemmas.{ArePages}
 use Rattle.paired.specs.Kept.{Layout, content_at, is_sound_in, kept, stored_records}
 use Rattle.paired.specs.Opening.{as_read}
-use Rattle.paired.specs.Records.{entry_of, front, is_sound, records}
+use Rattle.paired.specs.Records.{entry_of, unbroken_prefix, is_sound, records}
 use Rattle.paired.specs.Replaying.{HasFailed, IsDue, IsRun, Run, is_sound_over, marker, pair_of, records_given, records_over}
 use Rattle.paired.proofs.GlobLemmas.{buffers}
 use Rattle.paired.proofs.KeptLemmas.{stored_entries}
-use Rattle.paired.proofs.opening.Ends.{front_all}
+use Rattle.paired.proofs.opening.Ends.{prefix_all}
 use Rattle.paired.proofs.pair.Synced.{Here}
-use Rattle.paired.specs.lemmas.Records.{front-take, length-records, records-enough, records-front}
+use Rattle.paired.specs.lemmas.Records.{prefix-take, length-records, records-enough, records-prefix}
 use Rattle.archives.proofs.init.Stored as opening
 use Rattle.blob_device.proofs.general.Numbers.{item_ends, times_next}
 use Rattle.blob_device.proofs.general.Options.{has_value, none_or_value, some_same, some_there, value_of}
 
 -- ---- lists
 -- of the first records the first ones are kept
-front-of_take : (sound : List ℕ → Bool) (least n position : ℕ) (rs : List (List ℕ)) → front sound least position (take n rs) ≡ take n (front sound least position rs)
-front-of_take sound least zero position rs = refl
-front-of_take sound least (suc n) position [] = refl
-front-of_take sound least (suc n) position (r ∷ rs) =
-    step (nat_lt position least || sound r) (front sound least (position + 1) (take n rs)) (front sound least (position + 1) rs) (front-of_take sound least n (position + 1) rs)
+prefix-of_take : (sound : List ℕ → Bool) (least n position : ℕ) (rs : List (List ℕ)) → unbroken_prefix sound least position (take n rs) ≡ take n (unbroken_prefix sound least position rs)
+prefix-of_take sound least zero position rs = refl
+prefix-of_take sound least (suc n) position [] = refl
+prefix-of_take sound least (suc n) position (r ∷ rs) =
+    step (nat_lt position least || sound r) (unbroken_prefix sound least (position + 1) (take n rs)) (unbroken_prefix sound least (position + 1) rs) (prefix-of_take sound least n (position + 1) rs)
   where
     step : (b : Bool) (few more : List (List ℕ)) → few ≡ take n more → (if b then r ∷ few else []) ≡ take (suc n) (if b then r ∷ more else [])
     step true few more is = ap (λ (xs : List (List ℕ)). r ∷ xs) is
     step false few more is = refl
 
 -- no more are kept than there are
-front_few : (sound : List ℕ → Bool) (least : ℕ) (rs : List (List ℕ)) → length (front sound least 0 rs) ≤ length rs
-front_few sound least rs = let kept_all = front sound least 0 rs in omega (arith, ap length (front-take sound least 0 rs), length-take (length kept_all) rs)
+prefix_few : (sound : List ℕ → Bool) (least : ℕ) (rs : List (List ℕ)) → length (unbroken_prefix sound least 0 rs) ≤ length rs
+prefix_few sound least rs = let kept_all = unbroken_prefix sound least 0 rs in omega (arith, ap length (prefix-take sound least 0 rs), length-take (length kept_all) rs)
 
 -- where there are no more than the marker says, all are kept
-front_whole : (sound : List ℕ → Bool) (least : ℕ) (rs : List (List ℕ)) → length rs ≤ least → front sound least 0 rs ≡ rs
-front_whole sound least rs few = front_all sound least rs (λ q lt. inl (omega (arith, lt, few)))
+prefix_whole : (sound : List ℕ → Bool) (least : ℕ) (rs : List (List ℕ)) → length rs ≤ least → unbroken_prefix sound least 0 rs ≡ rs
+prefix_whole sound least rs few = prefix_all sound least rs (λ q lt. inl (omega (arith, lt, few)))
 
 -- where there are as many, as many are kept
-front_least : (sound : List ℕ → Bool) (least : ℕ) (rs : List (List ℕ)) → least ≤ length rs → least ≤ length (front sound least 0 rs)
-front_least sound least rs some =
+prefix_least : (sound : List ℕ → Bool) (least : ℕ) (rs : List (List ℕ)) → least ≤ length rs → least ≤ length (unbroken_prefix sound least 0 rs)
+prefix_least sound least rs some =
     let long : length (take least rs) ≡ least = length-take-le least rs some in
-    let same : take least rs ≡ take least (front sound least 0 rs) = sym (front_whole sound least (take least rs) (omega (arith, long))) ∙ front-of_take sound least least 0 rs in
-    omega (arith, long, ap length same, length-take least (front sound least 0 rs))
+    let same : take least rs ≡ take least (unbroken_prefix sound least 0 rs) = sym (prefix_whole sound least (take least rs) (omega (arith, long))) ∙ prefix-of_take sound least least 0 rs in
+    omega (arith, long, ap length same, length-take least (unbroken_prefix sound least 0 rs))
 
 -- Of two images that keep the same of a section the one has so many records of it as the other, where those are fewer than its marker says.
 pub short_same : (l : Layout) (from to : Image) (m s : ℕ) → kept l to m s ≡ kept l from m s → length (stored_records l to s) < m → length (stored_records l from s) ≡ length (stored_records l to s)
 short_same l from to m s same few =
     let old : List (List ℕ) = stored_records l from s in
     let new : List (List ℕ) = stored_records l to s in
-    let kept_old : length (kept l from m s) ≡ length (front (is_sound_in l from s) m 0 old) = length-map (front (is_sound_in l from s) m 0 old) (entry_of l.place (content_at from l.values s)) in
-    let kept_new : length (kept l to m s) ≡ length (front (is_sound_in l to s) m 0 new) = length-map (front (is_sound_in l to s) m 0 new) (entry_of l.place (content_at to l.values s)) in
-    let all : length (front (is_sound_in l to s) m 0 new) ≡ length new = ap length (front_whole (is_sound_in l to s) m new (omega (arith, few))) in
+    let kept_old : length (kept l from m s) ≡ length (unbroken_prefix (is_sound_in l from s) m 0 old) = length-map (unbroken_prefix (is_sound_in l from s) m 0 old) (entry_of l.place (content_at from l.values s)) in
+    let kept_new : length (kept l to m s) ≡ length (unbroken_prefix (is_sound_in l to s) m 0 new) = length-map (unbroken_prefix (is_sound_in l to s) m 0 new) (entry_of l.place (content_at to l.values s)) in
+    let all : length (unbroken_prefix (is_sound_in l to s) m 0 new) ≡ length new = ap length (prefix_whole (is_sound_in l to s) m new (omega (arith, few))) in
     elim (cases_lt (length old) m) [
-      | inl less ↦ omega (arith, kept_old, kept_new, all, ap length same, ap length (front_whole (is_sound_in l from s) m old (omega (arith, less))))
-      | inr le ↦ absurd (omega (arith, few, kept_old, kept_new, all, ap length same, front_least (is_sound_in l from s) m old le))
+      | inl less ↦ omega (arith, kept_old, kept_new, all, ap length same, ap length (prefix_whole (is_sound_in l from s) m old (omega (arith, less))))
+      | inr le ↦ absurd (omega (arith, few, kept_old, kept_new, all, ap length same, prefix_least (is_sound_in l from s) m old le))
     ]
 
 none_first : {X : Type 0} (xs ys : List X) → xs ≡ [] → xs ≡ take (length xs) ys
@@ -84,8 +84,8 @@ none_first xs ys none = subst (λ (zs : List _). zs ≡ take (length zs) ys) (sy
 all_first : {X : Type 0} (xs ys : List X) → xs ≡ ys → xs ≡ take (length xs) ys
 all_first xs ys same = same ∙ sym (take_all (length xs) ys (omega (arith, ap length same)))
 
-data_front : (P n k : ℕ) (v : View) → k ≤ n → take k (data_from P v 0 n) ≡ data_from P v 0 k
-data_front P n k v le = read_data P 0 k v (take k (data_from P v 0 n)) (omega (arith, length-take k (data_from P v 0 n), length-data_from P v n 0, le))
+data_prefix : (P n k : ℕ) (v : View) → k ≤ n → take k (data_from P v 0 n) ≡ data_from P v 0 k
+data_prefix P n k v le = read_data P 0 k v (take k (data_from P v 0 n)) (omega (arith, length-take k (data_from P v 0 n), length-data_from P v n 0, le))
     (λ i lt. get_or-take k (data_from P v 0 n) i 0 lt ∙ get_or-data_from P v n 0 i (omega (arith, lt, le)))
 
 module _ {F S : Type 0} {gs : _} {g : buffer.Ghosts (PageBlob S gs)} {gives : F → Setting} {takes : WriteFactory → Setting} {told : Type 0} (run : Run F (PageBlob S gs)) (o : OpenedList) (d : Disk)
@@ -100,9 +100,9 @@ module _ {F S : Type 0} {gs : _} {g : buffer.Ghosts (PageBlob S gs)} {gives : F 
   flushed s u held = all_flushed (shown u) u.fit.within u.order (opening.settled_at run o d pages here was tracked unfailed t s u held)
 
   -- what is sealed of a held section is the first of its bytes
-  front_bytes : (s : ℕ) (u : PageBlob S gs) → run.walk.journal.sections.held s ≡ Some u
+  prefix_bytes : (s : ℕ) (u : PageBlob S gs) → run.walk.journal.sections.held s ≡ Some u
       → (sealed s u ≡ take (length (sealed s u)) (bytes_of (shown u) (at s).content)) × (length (sealed s u) ≤ length (bytes_of (shown u) (at s).content))
-  front_bytes s u held =
+  prefix_bytes s u held =
       let bytes : List ℕ = bytes_of (shown u) (at s).content in
       let long : length bytes ≡ size_of (shown u) = bytes_length (shown u) (at s).content in
       let adopted : IsAdopted run.layout.seal (shown u) (at s) = (pages.stands u (at s) ((was.index.over.disk t).stands s u held)).adopted in
@@ -112,7 +112,7 @@ module _ {F S : Type 0} {gs : _} {g : buffer.Ghosts (PageBlob S gs)} {gives : F 
             let short = prefix_short run.layout.seal (shown u) (at s) (omega (arith, u.fit.begun)) un in
             let le : length (sealed s u) ≤ length bytes = omega (arith, short, long) in (
               prefix_data run.layout.seal u.page_size (at s).content (omega (arith, u.fit.begun))
-                  ∙ sym (data_front u.page_size (length bytes) (length (sealed s u)) (view (at s).content) le)
+                  ∙ sym (data_prefix u.page_size (length bytes) (length (sealed s u)) (view (at s).content) le)
                   ∙ ap (take (length (sealed s u))) (sym (flushed_data run.layout.seal (shown u) (at s) u.fit.begun (inr un) (flushed s u held))),
               le,
             )
@@ -130,9 +130,9 @@ module _ {F S : Type 0} {gs : _} {g : buffer.Ghosts (PageBlob S gs)} {gives : F 
           | inr free ↦
               let bytes : List ℕ = bytes_of (shown u) (at s).content in
               let over_so : records_over run d s ≡ records run.layout.record_size bytes = opening.over_at run o d pages here was tracked unfailed t s u false some.1 free in
-              let first = front_bytes s u some.1 in
+              let first = prefix_bytes s u some.1 in
               subst (λ (xs : List (List ℕ)). stored_records run.layout (as_read d) s ≡ take (length (stored_records run.layout (as_read d) s)) xs) (sym over_so)
-              (subst (λ (xs : List (List ℕ)). xs ≡ take (length xs) (records run.layout.record_size bytes)) (sym stored_so) (records-front run.layout.record_size bytes (sealed s u) here.some first.0 first.1))
+              (subst (λ (xs : List (List ℕ)). xs ≡ take (length xs) (records run.layout.record_size bytes)) (sym stored_so) (records-prefix run.layout.record_size bytes (sealed s u) here.some first.0 first.1))
         ]
   ]
 
@@ -142,10 +142,10 @@ module _ {F S : Type 0} {gs : _} {g : buffer.Ghosts (PageBlob S gs)} {gives : F 
       let all : List (List ℕ) = records_over run d s in
       let many : ℕ = length (stored_records run.layout (as_read d) s) in
       let sound : is_sound_in run.layout (as_read d) s ≡ is_sound_over run d s = (λ i r. is_sound run.layout.seal (opening.values_at run o d pages here was tracked unfailed t s small i) (run.layout.place r)) in
-      stored_entries run.layout.place (content_at (as_read d) run.layout.values s) (front (is_sound_in run.layout (as_read d) s) (marker run s) 0 (stored_records run.layout (as_read d) s))
-      ∙ (λ i. front (sound i) (marker run s) 0 (stored_first s small i))
-      ∙ front-of_take (is_sound_over run d s) (marker run s) many 0 all
-      ∙ ap (take many) (sym (ap (λ (b : Bool). cond b (front (is_sound_over run d s) (marker run s) 0 all) all) tracked))
+      stored_entries run.layout.place (content_at (as_read d) run.layout.values s) (unbroken_prefix (is_sound_in run.layout (as_read d) s) (marker run s) 0 (stored_records run.layout (as_read d) s))
+      ∙ (λ i. unbroken_prefix (sound i) (marker run s) 0 (stored_first s small i))
+      ∙ prefix-of_take (is_sound_over run d s) (marker run s) many 0 all
+      ∙ ap (take many) (sym (ap (λ (b : Bool). cond b (unbroken_prefix (is_sound_over run d s) (marker run s) 0 all) all) tracked))
 
   -- ---- where the walk has come to
   going_on : run.walk.ended ≡ false
@@ -176,7 +176,7 @@ module _ {F S : Type 0} {gs : _} {g : buffer.Ghosts (PageBlob S gs)} {gives : F 
 
   module _ (s p : ℕ) (given : p < length (records_given run d s)) (passed : IsDue run d s p → ⊥) where
     over_given : p < length (records_over run d s)
-    over_given = omega (arith, given, ap length (ap (λ (b : Bool). cond b (front (is_sound_over run d s) (marker run s) 0 (records_over run d s)) (records_over run d s)) tracked), front_few (is_sound_over run d s) (marker run s) (records_over run d s))
+    over_given = omega (arith, given, ap length (ap (λ (b : Bool). cond b (unbroken_prefix (is_sound_over run d s) (marker run s) 0 (records_over run d s)) (records_over run d s)) tracked), prefix_few (is_sound_over run d s) (marker run s) (records_over run d s))
 
     -- it is not left
     not_left : IsLeft run.layout.seal run.layout.record_size run.walk d s p → ⊥

@@ -168,11 +168,11 @@ one_more P rows new row was now same s p added others at within has all t = elim
     long : length (new s) ≡ p + 1
     long = ap length added ∙ length-append (rows s) (row ∷ []) ∙ omega (arith, at)
 
-    front : AllByRecursion P (take p (was s))
-    front = subst (λ (n : ℕ). AllByRecursion P (take n (was s))) (sym at) (all s)
+    prefix : AllByRecursion P (take p (was s))
+    prefix = subst (λ (n : ℕ). AllByRecursion P (take n (was s))) (sym at) (all s)
 
     pushed : AllByRecursion P (take (p + 1) (was s))
-    pushed = subst (AllByRecursion P) (sym (take_more (was s) p [] within)) (all_push P (take p (was s)) (get_or (was s) p []) front has)
+    pushed = subst (AllByRecursion P) (sym (take_more (was s) p [] within)) (all_push P (take p (was s)) (get_or (was s) p []) prefix has)
 
     here : AllByRecursion P (take (length (new s)) (now s))
     here = subst (λ (n : ℕ). AllByRecursion P (take n (now s))) (sym long) (subst (λ (rs : List (List ℕ)). AllByRecursion P (take (p + 1) rs)) (sym (same s)) pushed)

@@ -37,7 +37,7 @@ use Rattle.paired.specs.Opening.{as_read, IsLawful, NoChanceSlots, MayBeOpened, 
 use Rattle.paired.specs.OpeningRefusing.{AreSpellings}
 use Rattle.paired.specs.Pair.{AreApart}
 use Rattle.paired.specs.Places.{Follow}
-use Rattle.paired.specs.Records.{records, front, entry_of, is_sound}
+use Rattle.paired.specs.Records.{records, unbroken_prefix, entry_of, is_sound}
 use Rattle.paired.specs.Replaying.{Run, pair_of, IsRun, IsStill}
 use Rattle.paired.proofs.GlobLemmas.{buffers}
 use Rattle.paired.proofs.next.Went.{Went}
@@ -113,7 +113,7 @@ module _ (l : Layout) (pos : 1 ≤ l.record_size) (apart : AreApart l) (from d :
   sound_same s = (λ i r. is_sound l.seal (values_same s i) (l.place r))
 
   pub kept_same : (m s : ℕ) → s < 2 ^ 64 → kept l (as_read d) m s ≡ kept l (as_read from) m s
-  kept_same m s small = (λ i. map (entry_of l.place (values_same s i)) (front (sound_same s i) m 0 (stored_same s small i)))
+  kept_same m s small = (λ i. map (entry_of l.place (values_same s i)) (unbroken_prefix (sound_same s i) m 0 (stored_same s small i)))
 
   there_back : (q : Key) → IsSome (as_read d q) → IsSome (as_read from q)
   there_back q is = elim (index_or_not l q) [

@@ -32,7 +32,7 @@ use Rattle.paired.proofs.next.Went.{Went, none_as}
 use Rattle.paired.proofs.pair.Removing.{opened_stays}
 use Rattle.paired.proofs.pair.Sections.{other_partition}
 use Rattle.paired.proofs.pair.Synced.{Here, store_stays}
-use Rattle.paired.specs.lemmas.Records.{records-front, records-enough, length-records}
+use Rattle.paired.specs.lemmas.Records.{records-prefix, records-enough, length-records}
 use Rattle.meta_store.specs.Store.{contents_of}
 use Rattle.blob_device.proofs.general.Options.{none_or_value, some_of, some_there}
 
@@ -54,7 +54,7 @@ rest_records seal P size floor from b pos rest may (inr cut) =
     let whole : length (records size (sealed_prefix seal P from.content)) ≡ length (sealed_prefix seal P from.content) / size = length-records size (sealed_prefix seal P from.content) in
     let enough : length (sealed_prefix seal P from.content) / size ≤ length (records size (sealed_prefix seal P b.content)) =
     records-enough size (length (sealed_prefix seal P from.content) / size) (sealed_prefix seal P b.content) pos left.no_shorter in
-    records-front size (sealed_prefix seal P from.content) (sealed_prefix seal P b.content) pos left.is left.no_longer
+    records-prefix size (sealed_prefix seal P from.content) (sealed_prefix seal P b.content) pos left.is left.no_longer
     ∙ take_all (length (records size (sealed_prefix seal P b.content))) (records size (sealed_prefix seal P from.content)) (omega (arith, whole, enough))
 
 module _ {F S : Type 0} {gs : _} (g : buffer.Ghosts (PageBlob S gs)) (gives : F → Setting) {takes : WriteFactory → Setting} (told : Type 0) (run : Run F (PageBlob S gs)) (pages : ArePages g run.layout.seal)

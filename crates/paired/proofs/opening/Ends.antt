@@ -10,7 +10,7 @@ use Rattle.std.proofs.lemmas.Bool.Decides.{nat_tests}
 use Rattle.std.proofs.lemmas.List.{take_all, take-take, take-map, get_or-take}
 use Rattle.blob_device.specs.Disk.{Image}
 use Rattle.value_codec.specs.Keys.{key8_bytes}
-use Rattle.section_manager.specs.Fronts.{IsFront}
+use Rattle.section_manager.specs.Prefixes.{IsPrefixOf}
 use Rattle.section_manager.specs.Sections.{section_key}
 use Rattle.meta_store.specs.declared.error.Side.{Side}
 use Rattle.meta_store.specs.declared.error.Side.TheVariants.{Left, Right}
@@ -18,12 +18,12 @@ use Rattle.meta_store.specs.Blobs.{blob_of, bytes_of}
 use Rattle.meta_store.specs.Pairs.{HoldMap}
 use Rattle.paired.specs.Crashes.{HoldMarkers, Keeps}
 use Rattle.paired.specs.Kept.{Layout, Markers, MarkerMap, HasNoFloor, IsMarked, marker_of, content_at, stored_records, is_sound_in, kept, IsTrueMarker}
-use Rattle.paired.specs.Opening.{AreNamed, IsInPlace, IsLawful, Relation, IsOrder, Same, Front, Any, UpTo, KeepsBy}
+use Rattle.paired.specs.Opening.{AreNamed, IsInPlace, IsLawful, Relation, IsOrder, Same, APrefix, Any, UpTo, KeepsBy}
 use Rattle.paired.specs.Places.{Follow, end_of, last_end}
-use Rattle.paired.specs.Records.{Entry, is_sound, front, entry_of}
+use Rattle.paired.specs.Records.{Entry, is_sound, unbroken_prefix, entry_of}
 use Rattle.paired.proofs.KeptLemmas.{EndsBy, follow_least, follow_ends, entry_same, settled_bytes, sound_parts, sound_settled, stored_entries}
 use Rattle.paired.proofs.pair.Synced.{unmarked_zero}
-use Rattle.paired.specs.lemmas.Records.{map-same, front-take}
+use Rattle.paired.specs.lemmas.Records.{map-same, prefix-take}
 use Rattle.blob_device.proofs.general.Lists.{all_take, all_with}
 use Rattle.blob_device.proofs.general.Options.{none_or_value}
 
@@ -36,7 +36,7 @@ module _ (sound : List ℕ → Bool) (marker : ℕ) where
   abbrev pub IsGoodAt : ℕ → List (List ℕ) → ℕ → Type 0
   IsGoodAt position rs q = (position + q < marker) ⊎ IsTrue (sound (get_or rs q []))
 
-  -- The front stops at p: there is no such record, or it is at or above the marker and its value fails.
+  -- The prefix stops at p: there is no such record, or it is at or above the marker and its value fails.
   abbrev pub StopsAt : ℕ → List (List ℕ) → ℕ → Type 0
   StopsAt position rs p = (p ≡ length rs) ⊎ ((marker ≤ position + p) × (sound (get_or rs p []) ≡ false))
 
@@ -47,15 +47,15 @@ module _ (sound : List ℕ → Bool) (marker : ℕ) where
   bad_test : (position : ℕ) (r : List ℕ) → marker ≤ position → sound r ≡ false → (nat_lt position marker || sound r) ≡ false
   bad_test position r le bad = ap (λ (b : Bool). b || sound r) (le-ltb position marker le) ∙ bad
 
-  pub front_stops : (position p : ℕ) (rs : List (List ℕ)) → p ≤ length rs → ((q : ℕ) → q < p → IsGoodAt position rs q) → StopsAt position rs p → front sound marker position rs ≡ take p rs
-  front_stops position zero [] le good stops = refl
-  front_stops position (suc p) [] le good stops = refl
-  front_stops position zero (r ∷ rs) le good (inl none) = absurd (omega (arith, none))
-  front_stops position zero (r ∷ rs) le good (inr stop) =
-      ap (λ (b : Bool). if b then r ∷ front sound marker (position + 1) rs else []) (bad_test position r (omega (arith, stop.0)) stop.1)
-  front_stops position (suc p) (r ∷ rs) le good stops =
-      ap (λ (b : Bool). if b then r ∷ front sound marker (position + 1) rs else []) (good_test position r (good 0 (omega arith)))
-      ∙ ap (λ (xs : List (List ℕ)). r ∷ xs) (front_stops (position + 1) p rs (omega (arith, le)) (λ q lt. next q (good (suc q) (omega (arith, lt)))) (stop stops))
+  pub prefix_stops : (position p : ℕ) (rs : List (List ℕ)) → p ≤ length rs → ((q : ℕ) → q < p → IsGoodAt position rs q) → StopsAt position rs p → unbroken_prefix sound marker position rs ≡ take p rs
+  prefix_stops position zero [] le good stops = refl
+  prefix_stops position (suc p) [] le good stops = refl
+  prefix_stops position zero (r ∷ rs) le good (inl none) = absurd (omega (arith, none))
+  prefix_stops position zero (r ∷ rs) le good (inr stop) =
+      ap (λ (b : Bool). if b then r ∷ unbroken_prefix sound marker (position + 1) rs else []) (bad_test position r (omega (arith, stop.0)) stop.1)
+  prefix_stops position (suc p) (r ∷ rs) le good stops =
+      ap (λ (b : Bool). if b then r ∷ unbroken_prefix sound marker (position + 1) rs else []) (good_test position r (good 0 (omega arith)))
+      ∙ ap (λ (xs : List (List ℕ)). r ∷ xs) (prefix_stops (position + 1) p rs (omega (arith, le)) (λ q lt. next q (good (suc q) (omega (arith, lt)))) (stop stops))
     where
       next : (q : ℕ) → IsGoodAt position (r ∷ rs) (suc q) → IsGoodAt (position + 1) rs q
       next q (inl lt) = inl (omega (arith, lt))
@@ -66,52 +66,52 @@ module _ (sound : List ℕ → Bool) (marker : ℕ) where
       stop (inr bad) = inr (omega (arith, bad.0), bad.1)
 
   -- where each is good, all are kept
-  pub front_all : (rs : List (List ℕ)) → ((q : ℕ) → q < length rs → IsGoodAt 0 rs q) → front sound marker 0 rs ≡ rs
-  front_all rs good = front_stops 0 (length rs) rs (omega arith) good (inl refl) ∙ take_all (length rs) rs (omega arith)
+  pub prefix_all : (rs : List (List ℕ)) → ((q : ℕ) → q < length rs → IsGoodAt 0 rs q) → unbroken_prefix sound marker 0 rs ≡ rs
+  prefix_all rs good = prefix_stops 0 (length rs) rs (omega arith) good (inl refl) ∙ take_all (length rs) rs (omega arith)
 
-  -- of the first records that reach to where the front stops the same are kept
-  pub front_cut : (p k : ℕ) (rs : List (List ℕ)) → p ≤ k → k ≤ length rs → p < length rs → ((q : ℕ) → q < p → IsGoodAt 0 rs q) → marker ≤ p → sound (get_or rs p []) ≡ false
-      → front sound marker 0 (take k rs) ≡ front sound marker 0 rs
-  front_cut p k rs le few more good high bad =
+  -- of the first records that reach to where the prefix stops the same are kept
+  pub prefix_cut : (p k : ℕ) (rs : List (List ℕ)) → p ≤ k → k ≤ length rs → p < length rs → ((q : ℕ) → q < p → IsGoodAt 0 rs q) → marker ≤ p → sound (get_or rs p []) ≡ false
+      → unbroken_prefix sound marker 0 (take k rs) ≡ unbroken_prefix sound marker 0 rs
+  prefix_cut p k rs le few more good high bad =
       let long : length (take k rs) ≡ k = length-take-le k rs few in
       let here : (q : ℕ) → q < k → get_or (take k rs) q [] ≡ get_or rs q [] = λ q lt. get_or-take k rs q [] lt in
-      front_stops 0 p (take k rs) (omega (arith, le, long)) (λ q lt. again q (here q (omega (arith, lt, le))) (good q lt))
+      prefix_stops 0 p (take k rs) (omega (arith, le, long)) (λ q lt. again q (here q (omega (arith, lt, le))) (good q lt))
       (elim (cases_lt p k) [
         | inl lt ↦ inr (omega (arith, high), ap sound (here p lt) ∙ bad)
         | inr same ↦ inl (omega (arith, same, le, long))
       ])
-      ∙ take-take p k rs le ∙ sym (front_stops 0 p rs (omega (arith, more)) good (inr (omega (arith, high), bad)))
+      ∙ take-take p k rs le ∙ sym (prefix_stops 0 p rs (omega (arith, more)) good (inr (omega (arith, high), bad)))
     where
       again : (q : ℕ) → get_or (take k rs) q [] ≡ get_or rs q [] → IsGoodAt 0 rs q → IsGoodAt 0 (take k rs) q
       again q same (inl lt) = inl lt
       again q same (inr is) = inr (ap sound same ∙ is)
 
   -- all are kept where each is sound
-  pub front_sound : (position : ℕ) (rs : List (List ℕ)) → AllByRecursion (λ r. IsTrue (sound r)) rs → front sound marker position rs ≡ rs
-  front_sound position [] all = refl
-  front_sound position (r ∷ rs) all =
-      ap (λ (b : Bool). if b then r ∷ front sound marker (position + 1) rs else []) (or_right (nat_lt position marker) (sound r) all.0)
-      ∙ ap (λ (xs : List (List ℕ)). r ∷ xs) (front_sound (position + 1) rs all.1)
+  pub prefix_sound : (position : ℕ) (rs : List (List ℕ)) → AllByRecursion (λ r. IsTrue (sound r)) rs → unbroken_prefix sound marker position rs ≡ rs
+  prefix_sound position [] all = refl
+  prefix_sound position (r ∷ rs) all =
+      ap (λ (b : Bool). if b then r ∷ unbroken_prefix sound marker (position + 1) rs else []) (or_right (nat_lt position marker) (sound r) all.0)
+      ∙ ap (λ (xs : List (List ℕ)). r ∷ xs) (prefix_sound (position + 1) rs all.1)
 
   -- each that is kept is sound, where those below the marker are
-  kept_sound : (left position : ℕ) (rs : List (List ℕ)) → left ≡ marker - position → AllByRecursion (λ r. IsTrue (sound r)) (take left rs) → AllByRecursion (λ r. IsTrue (sound r)) (front sound marker position rs)
+  kept_sound : (left position : ℕ) (rs : List (List ℕ)) → left ≡ marker - position → AllByRecursion (λ r. IsTrue (sound r)) (take left rs) → AllByRecursion (λ r. IsTrue (sound r)) (unbroken_prefix sound marker position rs)
   kept_sound left position [] is all = tt
   kept_sound zero position (r ∷ rs) is all =
-      step (nat_lt position marker) (sound r) (front sound marker (position + 1) rs) (le-ltb position marker (omega (arith, is))) refl (kept_sound zero (position + 1) rs (omega (arith, is)) tt)
+      step (nat_lt position marker) (sound r) (unbroken_prefix sound marker (position + 1) rs) (le-ltb position marker (omega (arith, is))) refl (kept_sound zero (position + 1) rs (omega (arith, is)) tt)
     where
       step : (b s : Bool) (tail : List (List ℕ)) → b ≡ false → s ≡ sound r → AllByRecursion (λ x. IsTrue (sound x)) tail → AllByRecursion (λ x. IsTrue (sound x)) (if b || s then r ∷ tail else [])
       step true s tail none same rest = absurd (cc none)
       step false true tail none same rest = (sym same, rest)
       step false false tail none same rest = tt
   kept_sound (suc left) position (r ∷ rs) is all =
-      step (nat_lt position marker || sound r) (front sound marker (position + 1) rs) (kept_sound left (position + 1) rs (omega (arith, is)) all.1)
+      step (nat_lt position marker || sound r) (unbroken_prefix sound marker (position + 1) rs) (kept_sound left (position + 1) rs (omega (arith, is)) all.1)
     where
       step : (b : Bool) (tail : List (List ℕ)) → AllByRecursion (λ x. IsTrue (sound x)) tail → AllByRecursion (λ x. IsTrue (sound x)) (if b then r ∷ tail else [])
       step true tail rest = (all.0, rest)
       step false tail rest = tt
 
-  pub front_is_sound : (left position : ℕ) (rs : List (List ℕ)) → left ≡ marker - position → AllByRecursion (λ r. IsTrue (sound r)) (take left rs) → front sound marker position rs ≡ rs → AllByRecursion (λ r. IsTrue (sound r)) rs
-  front_is_sound left position rs is all whole = subst (AllByRecursion (λ r. IsTrue (sound r))) whole (kept_sound left position rs is all)
+  pub prefix_is_sound : (left position : ℕ) (rs : List (List ℕ)) → left ≡ marker - position → AllByRecursion (λ r. IsTrue (sound r)) (take left rs) → unbroken_prefix sound marker position rs ≡ rs → AllByRecursion (λ r. IsTrue (sound r)) rs
+  prefix_is_sound left position rs is all whole = subst (AllByRecursion (λ r. IsTrue (sound r))) whole (kept_sound left position rs is all)
 
 -- ---- places
 module _ (place : List ℕ → ℕ × ℕ) where
@@ -150,14 +150,14 @@ marked_or_zero markers s = elim (cases_lt s (2 ^ 64)) [
 pub same_order : IsOrder Same
 same_order = record { itself = λ s list. refl; onward = λ s last found list more first. more ∙ first }
 
-front_onward : (last found list : List Entry) → last ≡ take (length last) found → found ≡ take (length found) list → last ≡ take (length last) list
-front_onward last found list more first =
+prefix_onward : (last found list : List Entry) → last ≡ take (length last) found → found ≡ take (length found) list → last ≡ take (length last) list
+prefix_onward last found list more first =
     more ∙ ap (take (length last)) first ∙ take-take (length last) (length found) list (omega (arith, ap length more, length-take (length last) found))
 
-pub front_order : IsOrder Front
-front_order = record {
+pub prefix_order : IsOrder APrefix
+prefix_order = record {
   itself = λ s list. sym (take_all (length list) list (omega arith));
-  onward = λ s last found list more first. front_onward last found list more first;
+  onward = λ s last found list more first. prefix_onward last found list more first;
 }
 
 pub any_order : IsOrder Any
@@ -165,9 +165,9 @@ any_order = record { itself = λ s list. tt; onward = λ s last found list more 
 
 pub up_to_order : (section least : ℕ) → IsOrder (UpTo section least)
 up_to_order section least = record {
-  itself = λ s list. record { front = sym (take_all (length list) list (omega arith)); before = λ lt. refl; here = λ is. omega arith };
+  itself = λ s list. record { unbroken_prefix = sym (take_all (length list) list (omega arith)); before = λ lt. refl; here = λ is. omega arith };
   onward = λ s last found list more first. record {
-    front = front_onward last found list more.front first.front;
+    unbroken_prefix = prefix_onward last found list more.prefix first.prefix;
     before = λ lt. more.before lt ∙ first.before lt;
     here = λ is. omega (arith, more.here is, first.here is);
   };
@@ -178,18 +178,18 @@ pub by_same : (Rel : Relation) → IsOrder Rel → (s : ℕ) (found list : List 
 by_same Rel order s found list same = subst (Rel s found) same (order.itself s found)
 
 -- of the first records the first of what is kept of all of them is kept
-pub front_of_first : (sound : List ℕ → Bool) (marker position k : ℕ) (rs : List (List ℕ)) → front sound marker position (take k rs) ≡ take k (front sound marker position rs)
-front_of_first sound marker position zero rs = refl
-front_of_first sound marker position (suc k) [] = refl
-front_of_first sound marker position (suc k) (r ∷ rs) = step (nat_lt position marker || sound r) (front_of_first sound marker (position + 1) k rs)
+pub prefix_of_first : (sound : List ℕ → Bool) (marker position k : ℕ) (rs : List (List ℕ)) → unbroken_prefix sound marker position (take k rs) ≡ take k (unbroken_prefix sound marker position rs)
+prefix_of_first sound marker position zero rs = refl
+prefix_of_first sound marker position (suc k) [] = refl
+prefix_of_first sound marker position (suc k) (r ∷ rs) = step (nat_lt position marker || sound r) (prefix_of_first sound marker (position + 1) k rs)
   where
-    step : (b : Bool) → front sound marker (position + 1) (take k rs) ≡ take k (front sound marker (position + 1) rs)
-        → (if b then r ∷ front sound marker (position + 1) (take k rs) else []) ≡ take (suc k) (if b then r ∷ front sound marker (position + 1) rs else [])
+    step : (b : Bool) → unbroken_prefix sound marker (position + 1) (take k rs) ≡ take k (unbroken_prefix sound marker (position + 1) rs)
+        → (if b then r ∷ unbroken_prefix sound marker (position + 1) (take k rs) else []) ≡ take (suc k) (if b then r ∷ unbroken_prefix sound marker (position + 1) rs else [])
     step true rest = ap (λ (xs : List (List ℕ)). r ∷ xs) rest
     step false rest = refl
 
-take_front : (k : ℕ) (list : List Entry) → Front 0 (take k list) list
-take_front k list = elim (cases_lt k (length list)) [
+take_prefix : (k : ℕ) (list : List Entry) → APrefix 0 (take k list) list
+take_prefix k list = elim (cases_lt k (length list)) [
   | inl few ↦ ap (λ (n : ℕ). take n list) (sym (length-take-le k list (omega (arith, few))))
   | inr many ↦
       let all : take k list ≡ list = take_all k list (omega (arith, many)) in
@@ -198,17 +198,17 @@ take_front k list = elim (cases_lt k (length list)) [
 
 -- Cut anywhere, the first are kept; cut to so many at the least, so many.
 module _ (view : List ℕ → Entry) (sound : List ℕ → Bool) (marker : ℕ) (rs : List (List ℕ)) where
-  cut_first : (k : ℕ) → map view (front sound marker 0 (take k rs)) ≡ take k (map view (front sound marker 0 rs))
-  cut_first k = ap (map view) (front_of_first sound marker 0 k rs) ∙ sym (take-map view k (front sound marker 0 rs))
+  cut_first : (k : ℕ) → map view (unbroken_prefix sound marker 0 (take k rs)) ≡ take k (map view (unbroken_prefix sound marker 0 rs))
+  cut_first k = ap (map view) (prefix_of_first sound marker 0 k rs) ∙ sym (take-map view k (unbroken_prefix sound marker 0 rs))
 
-  pub cut_front : (s k : ℕ) → Front s (map view (front sound marker 0 (take k rs))) (map view (front sound marker 0 rs))
-  cut_front s k = subst (λ (found : List Entry). Front s found (map view (front sound marker 0 rs))) (sym (cut_first k)) (take_front k (map view (front sound marker 0 rs)))
+  pub cut_prefix : (s k : ℕ) → APrefix s (map view (unbroken_prefix sound marker 0 (take k rs))) (map view (unbroken_prefix sound marker 0 rs))
+  cut_prefix s k = subst (λ (found : List Entry). APrefix s found (map view (unbroken_prefix sound marker 0 rs))) (sym (cut_first k)) (take_prefix k (map view (unbroken_prefix sound marker 0 rs)))
 
-  pub cut_up_to : (section least s k : ℕ) → section ≤ s → (s ≡ section → least ≤ k) → UpTo section least s (map view (front sound marker 0 (take k rs))) (map view (front sound marker 0 rs))
+  pub cut_up_to : (section least s k : ℕ) → section ≤ s → (s ≡ section → least ≤ k) → UpTo section least s (map view (unbroken_prefix sound marker 0 (take k rs))) (map view (unbroken_prefix sound marker 0 rs))
   cut_up_to section least s k behind enough = record {
-    front = cut_front s k;
+    unbroken_prefix = cut_prefix s k;
     before = λ lt. absurd (omega (arith, lt, behind));
-    here = λ is. omega (arith, enough is, ap length (cut_first k), length-take k (map view (front sound marker 0 rs)));
+    here = λ is. omega (arith, enough is, ap length (cut_first k), length-take k (map view (unbroken_prefix sound marker 0 rs)));
   }
 
 -- What the image keeps of the section stands so to what the old one keeps, by the same marker, which is true if it was.
@@ -228,21 +228,21 @@ stored_alone l old image markers s unmarked first = record { stored = first; kep
 
 -- ---- markers move
 -- below a marker all are sound: so a lower one keeps the same
-pub front_lower : (sound : List ℕ → Bool) (low high left position : ℕ) (rs : List (List ℕ)) → low ≤ high → left ≡ high - position → AllByRecursion (λ r. IsTrue (sound r)) (take left rs)
-    → front sound low position rs ≡ front sound high position rs
-front_lower sound low high left position [] le is all = refl
-front_lower sound low high zero position (r ∷ rs) le is all =
-    let rest : front sound low (position + 1) rs ≡ front sound high (position + 1) rs = front_lower sound low high zero (position + 1) rs le (omega (arith, is)) tt in
+pub prefix_lower : (sound : List ℕ → Bool) (low high left position : ℕ) (rs : List (List ℕ)) → low ≤ high → left ≡ high - position → AllByRecursion (λ r. IsTrue (sound r)) (take left rs)
+    → unbroken_prefix sound low position rs ≡ unbroken_prefix sound high position rs
+prefix_lower sound low high left position [] le is all = refl
+prefix_lower sound low high zero position (r ∷ rs) le is all =
+    let rest : unbroken_prefix sound low (position + 1) rs ≡ unbroken_prefix sound high (position + 1) rs = prefix_lower sound low high zero (position + 1) rs le (omega (arith, is)) tt in
     let both : nat_lt position low ≡ nat_lt position high = le-ltb position low (omega (arith, le, is)) ∙ sym (le-ltb position high (omega (arith, is))) in
     (λ i. if both i || sound r then r ∷ rest i else [])
-front_lower sound low high (suc left) position (r ∷ rs) le is all =
-    step (front_lower sound low high left (position + 1) rs le (omega (arith, is)) all.1)
+prefix_lower sound low high (suc left) position (r ∷ rs) le is all =
+    step (prefix_lower sound low high left (position + 1) rs le (omega (arith, is)) all.1)
   where
-    step : front sound low (position + 1) rs ≡ front sound high (position + 1) rs → front sound low position (r ∷ rs) ≡ front sound high position (r ∷ rs)
+    step : unbroken_prefix sound low (position + 1) rs ≡ unbroken_prefix sound high (position + 1) rs → unbroken_prefix sound low position (r ∷ rs) ≡ unbroken_prefix sound high position (r ∷ rs)
     step rest =
-        ap (λ (b : Bool). if b then r ∷ front sound low (position + 1) rs else []) (or_right (nat_lt position low) (sound r) all.0)
+        ap (λ (b : Bool). if b then r ∷ unbroken_prefix sound low (position + 1) rs else []) (or_right (nat_lt position low) (sound r) all.0)
         ∙ ap (λ (xs : List (List ℕ)). r ∷ xs) rest
-        ∙ sym (ap (λ (b : Bool). if b then r ∷ front sound high (position + 1) rs else []) (or_right (nat_lt position high) (sound r) all.0))
+        ∙ sym (ap (λ (b : Bool). if b then r ∷ unbroken_prefix sound high (position + 1) rs else []) (or_right (nat_lt position high) (sound r) all.0))
 
 -- each of these markers is true of the image
 abbrev pub AreTrueOf : Layout → Image → Markers → Type 0
@@ -282,10 +282,10 @@ module _ (l : Layout) (old image : Image) (markers new : Markers) (lawful : IsLa
   sound_as s small = λ i r. is_sound l.seal (values s small i) (l.place r)
 
   -- the lower of the two markers gives what the higher one gives
-  front_as : (s : ℕ) → front (is_sound_in l old s) (marker_of new.entries s) 0 (stored_records l old s) ≡ front (is_sound_in l old s) (marker_of markers.entries s) 0 (stored_records l old s)
-  front_as s = elim (cases_lt (marker_of new.entries s) (marker_of markers.entries s)) [
-    | inl less ↦ front_lower (is_sound_in l old s) (marker_of new.entries s) (marker_of markers.entries s) (marker_of markers.entries s) 0 (stored_records l old s) (omega (arith, less)) (omega arith) (sound_below l old markers lawful.true_markers s)
-    | inr more ↦ sym (front_lower (is_sound_in l old s) (marker_of markers.entries s) (marker_of new.entries s) (marker_of new.entries s) 0 (stored_records l old s) (omega (arith, more)) (omega arith) (sound_below l old new are_true s))
+  prefix_as : (s : ℕ) → unbroken_prefix (is_sound_in l old s) (marker_of new.entries s) 0 (stored_records l old s) ≡ unbroken_prefix (is_sound_in l old s) (marker_of markers.entries s) 0 (stored_records l old s)
+  prefix_as s = elim (cases_lt (marker_of new.entries s) (marker_of markers.entries s)) [
+    | inl less ↦ prefix_lower (is_sound_in l old s) (marker_of new.entries s) (marker_of markers.entries s) (marker_of markers.entries s) 0 (stored_records l old s) (omega (arith, less)) (omega arith) (sound_below l old markers lawful.true_markers s)
+    | inr more ↦ sym (prefix_lower (is_sound_in l old s) (marker_of markers.entries s) (marker_of new.entries s) (marker_of new.entries s) 0 (stored_records l old s) (omega (arith, more)) (omega arith) (sound_below l old new are_true s))
   ]
 
   pub remarked_keeps : KeepsBy l Same old markers image
@@ -310,8 +310,8 @@ module _ (l : Layout) (old image : Image) (markers new : Markers) (lawful : IsLa
       };
     };
     same = λ s small.
-        (λ i. map (entry_of l.place (values s small i)) (front (sound_as s small i) (marker_of new.entries s) 0 (records_as s small i)))
-        ∙ ap (map (entry_of l.place (content_at old l.values s))) (front_as s);
+        (λ i. map (entry_of l.place (values s small i)) (unbroken_prefix (sound_as s small i) (marker_of new.entries s) 0 (records_as s small i)))
+        ∙ ap (map (entry_of l.place (content_at old l.values s))) (prefix_as s);
     stored = λ s small. records_as s small ∙ sym (take_all (length (stored_records l image s)) (stored_records l old s) (omega (arith, ap length (records_as s small))));
   }
 
@@ -323,7 +323,7 @@ module _ (l : Layout) (Rel : Relation) (order : IsOrder Rel) (old image : Image)
       let sound_same : is_sound_in l image s ≡ is_sound_in l old s = (λ i r. is_sound l.seal (values i) (l.place r)) in
       record {
         stored = records_same ∙ sym (take_all (length (stored_records l image s)) (stored_records l old s) (omega (arith, ap length records_same)));
-        kept = by_same Rel order s _ _ (λ i. map (entry_of l.place (values i)) (front (sound_same i) (marker_of markers.entries s) 0 (records_same i)));
+        kept = by_same Rel order s _ _ (λ i. map (entry_of l.place (values i)) (unbroken_prefix (sound_same i) (marker_of markers.entries s) 0 (records_same i)));
         marked = λ m is was. record {
           index_blob = subst IsSome (sym index) was.index_blob;
           enough = omega (arith, ap length records_same, was.enough);
@@ -336,8 +336,8 @@ module _ (l : Layout) (Rel : Relation) (order : IsOrder Rel) (old image : Image)
   pub without_records : (markers : Markers) (s : ℕ) → (IsSome (old (section_key l.index s)) → IsSome (image (section_key l.index s))) → stored_records l image s ≡ [] → stored_records l old s ≡ [] → KeptBy l Rel old image markers s
   without_records markers s there bare none = record {
     stored = bare ∙ sym (take_all (length (stored_records l image s)) [] (omega arith)) ∙ ap (take (length (stored_records l image s))) (sym none);
-    kept = by_same Rel order s _ _ (ap (λ (rs : List (List ℕ)). map (entry_of l.place (content_at image l.values s)) (front (is_sound_in l image s) (marker_of markers.entries s) 0 rs)) bare
-        ∙ sym (ap (λ (rs : List (List ℕ)). map (entry_of l.place (content_at old l.values s)) (front (is_sound_in l old s) (marker_of markers.entries s) 0 rs)) none));
+    kept = by_same Rel order s _ _ (ap (λ (rs : List (List ℕ)). map (entry_of l.place (content_at image l.values s)) (unbroken_prefix (is_sound_in l image s) (marker_of markers.entries s) 0 rs)) bare
+        ∙ sym (ap (λ (rs : List (List ℕ)). map (entry_of l.place (content_at old l.values s)) (unbroken_prefix (is_sound_in l old s) (marker_of markers.entries s) 0 rs)) none));
     marked = λ m is was. record {
       index_blob = there was.index_blob;
       enough = omega (arith, ap length none, was.enough);
@@ -353,14 +353,14 @@ module _ (l : Layout) (Rel : Relation) (order : IsOrder Rel) (old image : Image)
   pub index_removed : (markers : Markers) (s : ℕ) → ((m : ℕ) → IsMarked markers.entries s m → ⊥) → stored_records l image s ≡ [] → Rel s [] (kept l old (marker_of markers.entries s) s) → KeptBy l Rel old image markers s
   index_removed markers s unmarked bare gone = record {
     stored = bare ∙ sym (ap (λ (rs : List (List ℕ)). take (length rs) (stored_records l old s)) bare);
-    kept = subst (λ (rs : List (List ℕ)). Rel s (map (entry_of l.place (content_at image l.values s)) (front (is_sound_in l image s) (marker_of markers.entries s) 0 rs)) (kept l old (marker_of markers.entries s) s)) (sym bare) gone;
+    kept = subst (λ (rs : List (List ℕ)). Rel s (map (entry_of l.place (content_at image l.values s)) (unbroken_prefix (is_sound_in l image s) (marker_of markers.entries s) 0 rs)) (kept l old (marker_of markers.entries s) s)) (sym bare) gone;
     marked = λ m is was. absurd (unmarked m is);
   }
 
   -- Its records are cut to p at the least, where what is kept of so many stands so to what is kept of all; its values are as they were.
   module _ (markers : Markers) (s p : ℕ) (there : IsSome (image (section_key l.index s))) (values : content_at image l.values s ≡ content_at old l.values s)
       (first : stored_records l image s ≡ take (length (stored_records l image s)) (stored_records l old s)) (reach : p ≤ length (stored_records l image s)) (high : marker_of markers.entries s ≤ p)
-      (fronts : (k : ℕ) → p ≤ k → k ≤ length (stored_records l old s) → Rel s (map (entry_of l.place (content_at old l.values s)) (front (is_sound_in l old s) (marker_of markers.entries s) 0 (take k (stored_records l old s)))) (kept l old (marker_of markers.entries s) s)) where
+      (prefixes : (k : ℕ) → p ≤ k → k ≤ length (stored_records l old s) → Rel s (map (entry_of l.place (content_at old l.values s)) (unbroken_prefix (is_sound_in l old s) (marker_of markers.entries s) 0 (take k (stored_records l old s)))) (kept l old (marker_of markers.entries s) s)) where
     less : length (stored_records l image s) ≤ length (stored_records l old s)
     less = omega (arith, ap length first, length-take (length (stored_records l image s)) (stored_records l old s))
 
@@ -371,8 +371,8 @@ module _ (l : Layout) (Rel : Relation) (order : IsOrder Rel) (old image : Image)
     records_cut = record {
       stored = first;
       kept = subst (λ (found : List Entry). Rel s found (kept l old (marker_of markers.entries s) s))
-          (sym (λ i. map (entry_of l.place (values i)) (front (same_sound i) (marker_of markers.entries s) 0 (first i))))
-          (fronts (length (stored_records l image s)) reach less);
+          (sym (λ i. map (entry_of l.place (values i)) (unbroken_prefix (same_sound i) (marker_of markers.entries s) 0 (first i))))
+          (prefixes (length (stored_records l image s)) reach less);
       marked = λ m is was.
           let few : m ≤ length (stored_records l image s) = omega (arith, marked_is markers.entries s m is, high, reach) in record {
             index_blob = there;
@@ -384,7 +384,7 @@ module _ (l : Layout) (Rel : Relation) (order : IsOrder Rel) (old image : Image)
 
   -- All its records are kept and stand where they did; its values are cut off behind those that the records name, at the earliest.
   module _ (markers : Markers) (s n : ℕ) (index : image (section_key l.index s) ≡ old (section_key l.index s)) (places : IsInPlace l old s) (reach : places.end ≤ n)
-      (is_front : IsFront (take n (content_at old l.values s)) (content_at image l.values s)) (sound : AllByRecursion (λ r. IsTrue (is_sound_in l old s r)) (stored_records l old s)) where
+      (is_prefix : IsPrefixOf (take n (content_at old l.values s)) (content_at image l.values s)) (sound : AllByRecursion (λ r. IsTrue (is_sound_in l old s r)) (stored_records l old s)) where
     abbrev rs : List (List ℕ)
     rs = stored_records l old s
 
@@ -400,21 +400,21 @@ module _ (l : Layout) (Rel : Relation) (order : IsOrder Rel) (old image : Image)
 
     still_sound : AllByRecursion (λ r. IsTrue (is_sound_in l image s r)) rs
     still_sound = all_with (EndsBy l.place places.end) (λ r. IsTrue (is_sound_in l old s r)) (λ r. IsTrue (is_sound_in l image s r))
-        (λ r ends was. sound_settled l.seal (content_at old l.values s) (content_at image l.values s) n (l.place r).0 (l.place r).1 is_front (inside r ends was) was) rs by_end sound
+        (λ r ends was. sound_settled l.seal (content_at old l.values s) (content_at image l.values s) n (l.place r).0 (l.place r).1 is_prefix (inside r ends was) was) rs by_end sound
 
     same_entries : map (entry_of l.place (content_at image l.values s)) rs ≡ map (entry_of l.place (content_at old l.values s)) rs
     same_entries = map-same (entry_of l.place (content_at image l.values s)) (entry_of l.place (content_at old l.values s)) rs
         (all_with (EndsBy l.place places.end) (λ r. IsTrue (is_sound_in l old s r)) (λ r. entry_of l.place (content_at image l.values s) r ≡ entry_of l.place (content_at old l.values s) r)
         (λ r ends was. entry_same l.place (content_at old l.values s) (content_at image l.values s) r
-        (settled_bytes (content_at old l.values s) (content_at image l.values s) n (l.place r).0 (l.place r).1 is_front (inside r ends was))) rs by_end sound)
+        (settled_bytes (content_at old l.values s) (content_at image l.values s) n (l.place r).0 (l.place r).1 is_prefix (inside r ends was))) rs by_end sound)
 
     pub values_cut : KeptBy l Rel old image markers s
     values_cut = record {
       stored = same_records ∙ sym (take_all (length (stored_records l image s)) rs (omega (arith, ap length same_records)));
-      kept = by_same Rel order s _ _ (ap (λ (xs : List (List ℕ)). map (entry_of l.place (content_at image l.values s)) (front (is_sound_in l image s) (marker_of markers.entries s) 0 xs)) same_records
-          ∙ ap (map (entry_of l.place (content_at image l.values s))) (front_sound (is_sound_in l image s) (marker_of markers.entries s) 0 rs still_sound)
+      kept = by_same Rel order s _ _ (ap (λ (xs : List (List ℕ)). map (entry_of l.place (content_at image l.values s)) (unbroken_prefix (is_sound_in l image s) (marker_of markers.entries s) 0 xs)) same_records
+          ∙ ap (map (entry_of l.place (content_at image l.values s))) (prefix_sound (is_sound_in l image s) (marker_of markers.entries s) 0 rs still_sound)
           ∙ same_entries
-          ∙ sym (ap (map (entry_of l.place (content_at old l.values s))) (front_sound (is_sound_in l old s) (marker_of markers.entries s) 0 rs sound)));
+          ∙ sym (ap (map (entry_of l.place (content_at old l.values s))) (prefix_sound (is_sound_in l old s) (marker_of markers.entries s) 0 rs sound)));
       marked = λ m is was. record {
         index_blob = subst IsSome (sym index) was.index_blob;
         enough = omega (arith, ap length same_records, was.enough);
@@ -470,15 +470,15 @@ module _ (l : Layout) (Rel : Relation) (order : IsOrder Rel) (old image : Image)
     stored = first;
   }
     where
-      front_here : ℕ → List (List ℕ)
-      front_here s = front (is_sound_in l old s) (marker_of markers.entries s) 0 (stored_records l old s)
+      prefix_here : ℕ → List (List ℕ)
+      prefix_here s = unbroken_prefix (is_sound_in l old s) (marker_of markers.entries s) 0 (stored_records l old s)
 
       first : (s : ℕ) → s < 2 ^ 64 → stored_records l image s ≡ take (length (stored_records l image s)) (stored_records l old s)
       first s small =
           let k : ℕ = length (stored_records l image s) in
-          let j : ℕ = length (front_here s) in
+          let j : ℕ = length (prefix_here s) in
           let wanted_records : map (λ e. e.stored) (wanted s) ≡ take j (stored_records l old s) =
-          ap (map (λ e. e.stored)) (list s small) ∙ stored_entries l.place (content_at old l.values s) (front_here s) ∙ front-take (is_sound_in l old s) (marker_of markers.entries s) 0 (stored_records l old s) in
+          ap (map (λ e. e.stored)) (list s small) ∙ stored_entries l.place (content_at old l.values s) (prefix_here s) ∙ prefix-take (is_sound_in l old s) (marker_of markers.entries s) 0 (stored_records l old s) in
           let is : stored_records l image s ≡ take k (take j (stored_records l old s)) = keeps.stored s small ∙ ap (take k) wanted_records in
           let le : k ≤ j = omega (arith, ap length is, length-take k (take j (stored_records l old s)), length-take j (stored_records l old s)) in
           is ∙ take-take k j (stored_records l old s) le

@@ -9,7 +9,7 @@ use Rattle.blob_device.specs.Disk.{Key, Blob, Disk, Image, IsCrashOf, MayLeave, 
 use Rattle.blob_device.specs.lemmas.Puts.{same_or_other}
 use Rattle.sealed_pages.specs.ChanceSeal as pages
 use Rattle.sealed_pages.specs.SealedPrefix.{sealed_prefix, Prefix}
-use Rattle.section_manager.specs.Fronts.{IsFront}
+use Rattle.section_manager.specs.Prefixes.{IsPrefixOf}
 use Rattle.section_manager.specs.Sections.{section_key}
 use Rattle.meta_store.specs.declared.error.Side.{Side}
 use Rattle.meta_store.specs.declared.error.Side.TheVariants.{Left, Right}
@@ -21,9 +21,9 @@ use Rattle.paired.specs.Kept.{Layout, Markers, HasNoFloor, IsMarked, marker_of, 
 use Rattle.paired.specs.Opening.{AreNamed, as_read, IsLawful, Relation, IsOrder, Same, Any, KeepsBy, RecallsBy, Recalls}
 use Rattle.paired.specs.Pair.{AreApart}
 use Rattle.paired.specs.Places.{Follow, last_end}
-use Rattle.paired.specs.Records.{Entry, records, is_sound, front, entry_of}
-use Rattle.paired.proofs.opening.Ends.{IsGoodAt, KeptBy, KeptHere, same_order, any_order, stored_alone, AreTrueOf, remarked_keeps, as_before, without_records, index_removed, records_cut, values_cut, sections_kept, markers_moved, sound_below, follow_last_end, front_is_sound, front_cut}
-use Rattle.paired.specs.lemmas.Records.{records-front, records-enough}
+use Rattle.paired.specs.Records.{Entry, records, is_sound, unbroken_prefix, entry_of}
+use Rattle.paired.proofs.opening.Ends.{IsGoodAt, KeptBy, KeptHere, same_order, any_order, stored_alone, AreTrueOf, remarked_keeps, as_before, without_records, index_removed, records_cut, values_cut, sections_kept, markers_moved, sound_below, follow_last_end, prefix_is_sound, prefix_cut}
+use Rattle.paired.specs.lemmas.Records.{records-prefix, records-enough}
 
 -- a key is that of a section of the partition that P names, or of none
 number : (partition : List ℕ) (P : ℕ → Bool) (q : Key) (found : (s : ℕ) × (s < 2 ^ 64) × IsTrue (P s) × (q ≡ section_key partition s)) → from_be_bytes w64 q.1 ≡ found.0
@@ -273,12 +273,12 @@ module _ (l : Layout) (apart : AreApart l) (from d : Disk) (IsChanged : ℕ → 
     pub record IsCut (Rel : Relation) (marker s : ℕ) : Type 0 where
       pub p : ℕ
       pub high : marker ≤ p
-      pub fronts : (k : ℕ) → p ≤ k → k ≤ length (stored_records l (as_read from) s)
-          → Rel s (map (entry_of l.place (content_at (as_read from) l.values s)) (front (is_sound_in l (as_read from) s) marker 0 (take k (stored_records l (as_read from) s)))) (kept l (as_read from) marker s)
+      pub prefixes : (k : ℕ) → p ≤ k → k ≤ length (stored_records l (as_read from) s)
+          → Rel s (map (entry_of l.place (content_at (as_read from) l.values s)) (unbroken_prefix (is_sound_in l (as_read from) s) marker 0 (take k (stored_records l (as_read from) s)))) (kept l (as_read from) marker s)
       pub leaves : pages.Leaves l.seal l.page_size (sealed_prefix l.seal l.page_size (content_at (as_read from) l.index s)) (p * l.record_size) (d (section_key l.index s))
       pub values : (left : Option (List ℕ)) → MayLeave (d (section_key l.values s)) left → unwrap_or left [] ≡ content_at (as_read from) l.values s
 
-    -- It is cut to p records, where the front of those that it reads as stops by the marker.
+    -- It is cut to p records, where the prefix of those that it reads as stops by the marker.
     pub record IsShortened (marker s : ℕ) : Type 0 where
       pub p : ℕ
       pub within : p < length (stored_records l (as_read from) s)
@@ -293,8 +293,8 @@ module _ (l : Layout) (apart : AreApart l) (from d : Disk) (IsChanged : ℕ → 
     cut_shortened marker s short = record {
       p = short.p;
       high = short.high;
-      fronts = λ k le few. ap (map (entry_of l.place (content_at (as_read from) l.values s)))
-          (front_cut (is_sound_in l (as_read from) s) marker short.p k (stored_records l (as_read from) s) le few short.within short.good short.high short.fails);
+      prefixes = λ k le few. ap (map (entry_of l.place (content_at (as_read from) l.values s)))
+          (prefix_cut (is_sound_in l (as_read from) s) marker short.p k (stored_records l (as_read from) s) le few short.within short.good short.high short.fails);
       leaves = short.leaves;
       values = short.values;
     }
@@ -313,21 +313,21 @@ module _ (l : Layout) (apart : AreApart l) (from d : Disk) (IsChanged : ℕ → 
       left = prefix_left sealed (cut.p * l.record_size) (d (section_key l.index s)) (image (section_key l.index s)) (crash (section_key l.index s)) cut.leaves (fresh.slots s small)
 
       first : stored_records l image s ≡ take (length (stored_records l image s)) (stored_records l old s)
-      first = records-front l.record_size sealed (sealed_prefix l.seal l.page_size (content_at image l.index s)) pos left.1.is left.1.no_longer
+      first = records-prefix l.record_size sealed (sealed_prefix l.seal l.page_size (content_at image l.index s)) pos left.1.is left.1.no_longer
           ∙ ap (take (length (stored_records l image s))) (sym (read_records image old back s small changed))
 
       -- what is said of the records and values as they read is said of the old ones
-      abbrev IsFronted : List ℕ → List (List ℕ) → Type 0
-      IsFronted values rs = (k : ℕ) → cut.p ≤ k → k ≤ length rs
-          → Rel s (map (entry_of l.place values) (front (λ r. is_sound l.seal values (l.place r)) (marker_of markers.entries s) 0 (take k rs))) (map (entry_of l.place values) (front (λ r. is_sound l.seal values (l.place r)) (marker_of markers.entries s) 0 rs))
+      abbrev IsPrefixed : List ℕ → List (List ℕ) → Type 0
+      IsPrefixed values rs = (k : ℕ) → cut.p ≤ k → k ≤ length rs
+          → Rel s (map (entry_of l.place values) (unbroken_prefix (λ r. is_sound l.seal values (l.place r)) (marker_of markers.entries s) 0 (take k rs))) (map (entry_of l.place values) (unbroken_prefix (λ r. is_sound l.seal values (l.place r)) (marker_of markers.entries s) 0 rs))
 
-      fronted : IsFronted (content_at old l.values s) (stored_records l old s)
-      fronted = subst (λ (values : List ℕ). IsFronted values (stored_records l old s)) (sym (values_read image old back s small changed))
-          (subst (IsFronted (content_at (as_read from) l.values s)) (sym (read_records image old back s small changed)) cut.fronts)
+      prefixed : IsPrefixed (content_at old l.values s) (stored_records l old s)
+      prefixed = subst (λ (values : List ℕ). IsPrefixed values (stored_records l old s)) (sym (values_read image old back s small changed))
+          (subst (IsPrefixed (content_at (as_read from) l.values s)) (sym (read_records image old back s small changed)) cut.prefixes)
 
       shortened : KeptBy l Rel old image markers s
       shortened = records_cut l Rel order old image markers s cut.p left.0 (cut.values (image (section_key l.values s)) (crash (section_key l.values s)) ∙ sym (values_read image old back s small changed)) first
-          (records-enough l.record_size cut.p (sealed_prefix l.seal l.page_size (content_at image l.index s)) pos left.1.no_shorter) cut.high fronted
+          (records-enough l.record_size cut.p (sealed_prefix l.seal l.page_size (content_at image l.index s)) pos left.1.no_shorter) cut.high prefixed
 
     -- by the markers that the pair has
     abbrev pub HasMarkers : (ℕ → ℕ) → Type 0
@@ -356,7 +356,7 @@ module _ (l : Layout) (apart : AreApart l) (from d : Disk) (IsChanged : ℕ → 
       list_old =
           let same_marker : marker_of markers.entries s ≡ marker s = has image old markers crash back lawful s small in
           (λ i. map (entry_of l.place (values_read image old back s small changed i))
-          (front (read_sound image old back s small changed i) (same_marker i) 0 (read_records image old back s small changed i)))
+          (unbroken_prefix (read_sound image old back s small changed i) (same_marker i) 0 (read_records image old back s small changed i)))
 
       dropped : KeptBy l Rel old image markers s
       dropped = elim (drop.index (image (section_key l.index s)) (crash (section_key l.index s))) [
@@ -387,8 +387,8 @@ module _ (l : Layout) (apart : AreApart l) (from d : Disk) (IsChanged : ℕ → 
     pub record IsTrimmed (marker s : ℕ) : Type 0 where
       pub n : ℕ
       pub reach : last_end l.place (stored_records l (as_read from) s) ≤ n
-      pub whole : front (is_sound_in l (as_read from) s) marker 0 (stored_records l (as_read from) s) ≡ stored_records l (as_read from) s
-      pub leaves : (left : Option (List ℕ)) → MayLeave (d (section_key l.values s)) left → IsFront (take n (content_at (as_read from) l.values s)) (unwrap_or left [])
+      pub whole : unbroken_prefix (is_sound_in l (as_read from) s) marker 0 (stored_records l (as_read from) s) ≡ stored_records l (as_read from) s
+      pub leaves : (left : Option (List ℕ)) → MayLeave (d (section_key l.values s)) left → IsPrefixOf (take n (content_at (as_read from) l.values s)) (unwrap_or left [])
       pub index : (left : Option (List ℕ)) → MayLeave (d (section_key l.index s)) left → left ≡ reads (from (section_key l.index s))
 
     -- The section has no index blob, and no crash brings back a record.
@@ -402,11 +402,11 @@ module _ (l : Layout) (apart : AreApart l) (from d : Disk) (IsChanged : ℕ → 
         abbrev places_end : ℕ
         places_end = (lawful.places s small).end
 
-        whole_old : front (is_sound_in l old s) (marker_of markers.entries s) 0 (stored_records l old s) ≡ stored_records l old s
-        whole_old = (λ i. front (read_sound image old back s small changed i) (marker_of markers.entries s) 0 (read_records image old back s small changed i)) ∙ trim.whole ∙ sym (read_records image old back s small changed)
+        whole_old : unbroken_prefix (is_sound_in l old s) (marker_of markers.entries s) 0 (stored_records l old s) ≡ stored_records l old s
+        whole_old = (λ i. unbroken_prefix (read_sound image old back s small changed i) (marker_of markers.entries s) 0 (read_records image old back s small changed i)) ∙ trim.whole ∙ sym (read_records image old back s small changed)
 
         all_sound : AllByRecursion (λ r. IsTrue (is_sound_in l old s r)) (stored_records l old s)
-        all_sound = front_is_sound (is_sound_in l old s) (marker_of markers.entries s) (marker_of markers.entries s) 0 (stored_records l old s) (omega arith) (sound_below l old markers lawful.true_markers s) whole_old
+        all_sound = prefix_is_sound (is_sound_in l old s) (marker_of markers.entries s) (marker_of markers.entries s) 0 (stored_records l old s) (omega arith) (sound_below l old markers lawful.true_markers s) whole_old
 
         no_end : stored_records l old s ≡ [] → 0 ≡ places_end
         no_end none = subst (λ (rs : List (List ℕ)). Follow l.place 0 rs places_end) none (lawful.places s small).follow
@@ -419,7 +419,7 @@ module _ (l : Layout) (apart : AreApart l) (from d : Disk) (IsChanged : ℕ → 
 
         trimmed : KeptBy l Rel old image markers s
         trimmed = values_cut l Rel order old image markers s trim.n (trim.index (image (section_key l.index s)) (crash (section_key l.index s)) ∙ sym (index_read image old back s small changed)) (lawful.places s small) reached
-            (subst (λ (c : List ℕ). IsFront (take trim.n c) (content_at image l.values s)) (sym (values_read image old back s small changed)) (trim.leaves (image (section_key l.values s)) (crash (section_key l.values s)))) all_sound
+            (subst (λ (c : List ℕ). IsPrefixOf (take trim.n c) (content_at image l.values s)) (sym (values_read image old back s small changed)) (trim.leaves (image (section_key l.values s)) (crash (section_key l.values s)))) all_sound
 
       bare_kept : IsBare s → KeptBy l Rel old image markers s
       bare_kept bare = without_records l Rel order old image markers s (λ some. absurd (cc (subst IsSome (index_read image old back s small changed ∙ bare.absent) some)))

@@ -39,5 +39,5 @@ committed_same l section n old markers new keeps s small =
     go : (b e : Bool) (found list : List Entry) → nat_lt s section ≡ b → (s == section) ≡ e → IsUpTo section n s found list
         → (if b then found else (if e then take n found else [])) ≡ (if b then list else (if e then take n list else []))
     go true e found list is same up = up.before (lt_of is)
-    go false true found list is same up = take_same n found list up.front (up.here (eqb-true s section same))
+    go false true found list is same up = take_same n found list up.prefix (up.here (eqb-true s section same))
     go false false found list is same up = refl

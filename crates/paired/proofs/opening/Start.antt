@@ -29,7 +29,7 @@ use Rattle.paired.specs.Kept.{Layout, Markers, marker_of, content_at, stored_rec
 use Rattle.paired.specs.Opening.{as_read, IsInPlace, IsLawful, KeepsAs, MayBeOpened, NoChanceSlots, OnlyOpens, Recalls}
 use Rattle.paired.specs.Pair.{AreApart, HasNoBytes}
 use Rattle.paired.specs.Places.{Follow}
-use Rattle.paired.specs.Records.{records, is_sound, front, entry_of}
+use Rattle.paired.specs.Records.{records, is_sound, unbroken_prefix, entry_of}
 use Rattle.paired.proofs.opening.Laws.{left_as_read}
 use Rattle.meta_store.proofs.Reopening.{IsPromised, by_opens}
 
@@ -51,7 +51,7 @@ module _ (l : Layout) (a b : Image) (same : AlikeImage l a b) where
   sound_alike s = λ i r. is_sound l.seal (values_alike s i) (l.place r)
 
   pub kept_alike : (m s : ℕ) → kept l b m s ≡ kept l a m s
-  kept_alike m s = λ i. map (entry_of l.place (values_alike s i)) (front (sound_alike s i) m 0 (stored_alike s i))
+  kept_alike m s = λ i. map (entry_of l.place (values_alike s i)) (unbroken_prefix (sound_alike s i) m 0 (stored_alike s i))
 
   pub held_alike : (markers : Markers) → HoldMarkers l a markers → HoldMarkers l b markers
   held_alike markers held = record {

@@ -24,12 +24,12 @@ use Rattle.paired.specs.Kept.{Layout, MarkerMap, IsMarked, marker_of, content_at
 use Rattle.paired.specs.Opening.{as_read}
 use Rattle.paired.specs.OpeningRefusing.{EndsWithin, IsLost, IsOutside, IsProved, IsUnreadable, last_of, place_end}
 use Rattle.paired.specs.Places.{last_end}
-use Rattle.paired.specs.Records.{front}
+use Rattle.paired.specs.Records.{unbroken_prefix}
 use Rattle.paired.specs.Replaying.{Run, HasGiven, IsChecked, IsDue, IsVouchedFor, is_sound_over, marker, records_given, records_over}
 use Rattle.paired.proofs.opening.Ends.{marked_is}
 use Rattle.paired.proofs.opening.StartRefusals.{last_is_record, records_end}
 use Rattle.paired.proofs.pair.Synced.{unmarked_zero}
-use Rattle.paired.specs.lemmas.Records.{front-take, length-records}
+use Rattle.paired.specs.lemmas.Records.{prefix-take, length-records}
 use Rattle.blob_device.proofs.general.Options.{none_or_value}
 
 -- the floor that a map gives is the marker, where it has the markers
@@ -90,11 +90,11 @@ module _ {F S : Type 0} {gs : _} (run : Run F (PageBlob S gs)) (sized : 1 ≤ ru
   given_over : (d : Disk) (s : ℕ) → length (records_given run d s) ≤ length (records_over run d s)
   given_over d s = go run.tracked
     where
-      go : (b : Bool) → length (cond b (front (λ r. is_sound_over run d s r) (marker run s) 0 (records_over run d s)) (records_over run d s)) ≤ length (records_over run d s)
+      go : (b : Bool) → length (cond b (unbroken_prefix (λ r. is_sound_over run d s r) (marker run s) 0 (records_over run d s)) (records_over run d s)) ≤ length (records_over run d s)
       go true = omega (
         arith,
-        ap length (front-take (λ r. is_sound_over run d s r) (marker run s) 0 (records_over run d s)),
-        length-take (length (front (λ r. is_sound_over run d s r) (marker run s) 0 (records_over run d s))) (records_over run d s),
+        ap length (prefix-take (λ r. is_sound_over run d s r) (marker run s) 0 (records_over run d s)),
+        length-take (length (unbroken_prefix (λ r. is_sound_over run d s r) (marker run s) 0 (records_over run d s))) (records_over run d s),
       )
       go false = omega arith
 

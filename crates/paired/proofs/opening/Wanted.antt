@@ -7,10 +7,10 @@ use Rattle.blob_device.specs.Disk.{Image}
 use Rattle.paired.specs.Kept.{Layout, Markers, marker_of, content_at, stored_records, is_sound_in, kept_by}
 use Rattle.paired.specs.Opening.{IsLawful}
 use Rattle.paired.specs.Openings.{some_sound, up_to_last, within, lowered, inferred, inferred_at_most, checkpointed, tracked, tracked_at_most, KeepsFirst}
-use Rattle.paired.specs.Records.{front}
+use Rattle.paired.specs.Records.{unbroken_prefix}
 use Rattle.paired.proofs.KeptLemmas.{stored_entries}
-use Rattle.paired.specs.lemmas.Records.{front-take}
-use Rattle.paired.proofs.opening.Ends.{front_lower, front_of_first, sound_below}
+use Rattle.paired.specs.lemmas.Records.{prefix-take}
+use Rattle.paired.proofs.opening.Ends.{prefix_lower, prefix_of_first, sound_below}
 use Rattle.blob_device.proofs.general.Lists.{all_take}
 
 -- ---- the first ones
@@ -52,12 +52,12 @@ module _ (l : Layout) where
       (up_to_last_first (is_sound_in l image s) (within section n s (stored_records l image s))) (within_first section n s (stored_records l image s))
 
   pub tracked_first : KeepsFirst l (tracked l)
-  tracked_first image markers s = front-take (is_sound_in l image s) (marker_of markers.entries s) 0 (stored_records l image s)
+  tracked_first image markers s = prefix-take (is_sound_in l image s) (marker_of markers.entries s) 0 (stored_records l image s)
 
   pub tracked_at_most_first : (section n : ℕ) → KeepsFirst l (tracked_at_most l section n)
   tracked_at_most_first section n image markers s =
       first_of_first (tracked_at_most l section n image markers s) (within section n s (stored_records l image s)) (stored_records l image s)
-      (front-take (is_sound_in l image s) (lowered section n s (marker_of markers.entries s)) 0 (within section n s (stored_records l image s))) (within_first section n s (stored_records l image s))
+      (prefix-take (is_sound_in l image s) (lowered section n s (marker_of markers.entries s)) 0 (within section n s (stored_records l image s))) (within_first section n s (stored_records l image s))
 
   -- ---- by markers
   -- the records of what is kept
@@ -72,10 +72,10 @@ module _ (l : Layout) where
         sound : List ℕ → Bool
         sound = is_sound_in l image s
 
-        here : (m : ℕ) (rs : List (List ℕ)) → AllByRecursion (λ r. IsTrue (sound r)) (take m rs) → front sound (min m n) 0 (take n rs) ≡ take n (front sound m 0 rs)
+        here : (m : ℕ) (rs : List (List ℕ)) → AllByRecursion (λ r. IsTrue (sound r)) (take m rs) → unbroken_prefix sound (min m n) 0 (take n rs) ≡ take n (unbroken_prefix sound m 0 rs)
         here m rs all =
-            front_lower sound (min m n) m m 0 (take n rs) (omega arith) (omega arith) (take_both m rs all)
-            ∙ front_of_first sound m 0 n rs
+            prefix_lower sound (min m n) m m 0 (take n rs) (omega arith) (omega arith) (take_both m rs all)
+            ∙ prefix_of_first sound m 0 n rs
           where
             swap : (k j : ℕ) (xs : List (List ℕ)) → take k (take j xs) ≡ take j (take k xs)
             swap zero zero xs = refl
@@ -89,8 +89,8 @@ module _ (l : Layout) where
             take_both m rs all = subst (AllByRecursion (λ r. IsTrue (sound r))) (swap n m rs) (all_take (λ r. IsTrue (sound r)) n (take m rs) all)
 
         step : (b e : Bool) (m : ℕ) (rs : List (List ℕ)) → AllByRecursion (λ r. IsTrue (sound r)) (take m rs)
-            → front sound (if b then m else (if e then min m n else 0)) 0 (if b then rs else (if e then take n rs else []))
-            ≡ (if b then front sound m 0 rs else (if e then take n (front sound m 0 rs) else []))
+            → unbroken_prefix sound (if b then m else (if e then min m n else 0)) 0 (if b then rs else (if e then take n rs else []))
+            ≡ (if b then unbroken_prefix sound m 0 rs else (if e then take n (unbroken_prefix sound m 0 rs) else []))
         step true e m rs all = refl
         step false true m rs all = here m rs all
         step false false m rs all = refl

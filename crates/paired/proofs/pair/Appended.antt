@@ -45,7 +45,7 @@ use Rattle.paired.specs.Records.{Entry, records, entries_of, is_sound}
 use Rattle.paired.proofs.pair.Stays.{journal_stays}
 use Rattle.paired.proofs.CallLemmas.{held_some}
 use Rattle.paired.proofs.GlobLemmas.{buffers, glob_stays, section_counted}
-use Rattle.paired.proofs.pair.Appending.{appended, append_good, append_tight, append_list, append_front, append_more, lengthened, lengthen_good, lengthen_list, lengthen_more}
+use Rattle.paired.proofs.pair.Appending.{appended, append_good, append_tight, append_list, append_prefix, append_more, lengthened, lengthen_good, lengthen_list, lengthen_more}
 use Rattle.paired.proofs.pair.Blobs.{values_of, opening_bare}
 use Rattle.paired.proofs.pair.Calls.{append_values, append_held, append_made}
 use Rattle.paired.proofs.pair.Facts.{proven_of, Parts, facts_of, settled_held, not_there, unheld, values_within, good_of, whole_of, few_of, tight_of, no_records_left, holding_of, glob_outlasts}
@@ -349,7 +349,7 @@ module _ {F S : Type 0} {gs : _} {g : buffer.Ghosts (PageBlob S gs)} {gives : F 
         index_bytes = ap (λ (x : Blob). fixed.bytes_held (p.index.sections.held s) x.content) index_blob
 
         stands_on : (x : Blob) → Added x → ValuesStand p.layout grown x ⊎ LeavesNoRecords p.layout (disk a (section_key p.layout.index s))
-        stands_on x (inl stand) = inl (record { kept = stand.kept; fronts = stand.fronts })
+        stands_on x (inl stand) = inl (record { kept = stand.kept; prefixes = stand.prefixes })
         stands_on x (inr none) = inr none
 
         module _ (m : Sections WriteFactory WriteBlob) (old new : OpenedList) (value : GetsValue p s takes told spelled m old new a b) where
@@ -388,13 +388,13 @@ module _ {F S : Type 0} {gs : _} {g : buffer.Ghosts (PageBlob S gs)} {gives : F 
             pub record_keeps : HasNoFloor (contents_of p.store) → KeepsWith entry c
             record_keeps no_floor = elim (none_or_value (p.index.sections.held s)) [
               | inl none ↦ append_made p.layout laid.pos pair.apart.values pair.apart.metadata pair.apart.both facts good within s small grown grown_good
-                  (append_more p.layout laid.pos (facts s) (good s) r spelled fits whole long here (within s)) entry (append_front p.layout laid.pos (facts s) (good s) r spelled fits whole long here)
+                  (append_more p.layout laid.pos (facts s) (good s) r spelled fits whole long here (within s)) entry (append_prefix p.layout laid.pos (facts s) (good s) r spelled fits whole long here)
                   (λ _. ⊥) (contents_of p.store) a b (standing no_floor) (Added) (values_added) stands_on c values_stood
                   (IsBeginningIndex p.layout.seal p.layout.page_size r (disk b (key_of p.index.sections s)))
                   (subst (λ (l : List ℕ). Always b c (OnlyAt (section_key l s) (disk b) (IsBeginningIndex p.layout.seal p.layout.page_size r (disk b (key_of p.index.sections s))))) laid.index (item.made none))
                   (unheld p.layout p.index p.values (synced_length p) (disk a) p.store opened laid.pos parts s none) (unmarked none) (λ x is. begins x none is)
               | inr some ↦ append_held p.layout laid.pos pair.apart.values pair.apart.metadata pair.apart.both facts good within s small grown grown_good
-                  (append_more p.layout laid.pos (facts s) (good s) r spelled fits whole long here (within s)) entry (append_front p.layout laid.pos (facts s) (good s) r spelled fits whole long here)
+                  (append_more p.layout laid.pos (facts s) (good s) r spelled fits whole long here (within s)) entry (append_prefix p.layout laid.pos (facts s) (good s) r spelled fits whole long here)
                   (λ _. ⊥) (contents_of p.store) a b (standing no_floor) (Added) (values_added) stands_on c values_stood
                   (pages.Leaves p.layout.seal some.0.page_size (fixed.section_bytes p.index.sections (disk b) s ++ r) some.0.settled)
                   (subst (λ (l : List ℕ). Always b c (OnlyAt (section_key l s) (disk b) (pages.Leaves p.layout.seal some.0.page_size (fixed.section_bytes p.index.sections (disk b) s ++ r) some.0.settled))) laid.index (item.moments some.0 some.1 (subst (IsSealed p.layout.seal (shown some.0)) (sym index_blob) ((pair.index.disk t).sealed s some.0 some.1 (proven_of pair.whole s)))))

@@ -6,7 +6,7 @@ use Rattle.std.proofs.lemmas.List.{take-append-le, map-append}
 use Rattle.std.proofs.lemmas.Nat.{from_be_bytes-to_be_bytes_4}
 use Rattle.std.proofs.Math.Nat.{div-add-mod}
 use Rattle.std.proofs.Math.Seq.{take-length, take-append_seam, drop-append_seam, drop-append-add}
-use Rattle.section_manager.specs.Fronts.{IsFront}
+use Rattle.section_manager.specs.Prefixes.{IsPrefixOf}
 use Rattle.segments.specs.FixedItems.{item_at}
 use Rattle.paired.specs.Frames.{bytes_at, frame}
 use Rattle.paired.specs.Places.{Follow, end_of}
@@ -43,15 +43,15 @@ all_push : {X : Type 0} (P : X → Type 0) (xs : List X) (x : X) → AllByRecurs
 all_push P [] x all one = (one, tt)
 all_push P (y ∷ ys) x all one = (all.0, all_push P ys x all.1 one)
 
--- a front of the bytes with more behind
-pub front_added : (bytes more : List ℕ) → IsFront bytes (bytes ++ more)
-front_added bytes more = take-append_seam bytes more
+-- a prefix of the bytes with more behind
+pub prefix_added : (bytes more : List ℕ) → IsPrefixOf bytes (bytes ++ more)
+prefix_added bytes more = take-append_seam bytes more
 
 -- what is sound stays sound where values are added
 pub sound_added : (seal : List ℕ → ℕ) (values more : List ℕ) (at n : ℕ) → IsTrue (is_sound seal values (at, n)) → IsTrue (is_sound seal (values ++ more) (at, n))
 sound_added seal values more at n sound =
     let own : take (length values) values ≡ values = take-length values in
-    sound_settled seal values (values ++ more) (length values) at n (subst (λ (x : List ℕ). IsFront x (values ++ more)) (sym own) (front_added values more))
+    sound_settled seal values (values ++ more) (length values) at n (subst (λ (x : List ℕ). IsPrefixOf x (values ++ more)) (sym own) (prefix_added values more))
     (omega (arith, (sound_parts seal values at n sound).1, ap length own)) sound
 
 -- and spells the same value
@@ -87,7 +87,7 @@ module _ (l : Layout) (f : Facts) (good : AreGood l f) (more : List ℕ) where
   pub lengthen_more : f.values_settled ≤ length f.values → IsMore f lengthened
   lengthen_more within = record {
     index = take-length f.index;
-    values = front_added f.values more;
+    values = prefix_added f.values more;
     index_settled = omega arith;
     values_settled = omega arith;
     within = within;
@@ -182,15 +182,15 @@ module _ (l : Layout) (pos : 1 ≤ l.record_size) (f : Facts) (good : AreGood l 
   unfolding append_good
   append_tight tight few = omega (arith, tight, ap (λ (p : ℕ × ℕ). p.1) here, length-append f.values (frame l.seal spelled))
 
-  -- what is at the front of the list with the record is at the front of it
-  pub append_front : take (length (list_in l appended)) (list_in l f ++ record { stored = r; value = spelled } ∷ []) ≡ list_in l appended
-  append_front = ap (take (length (list_in l appended))) (sym append_list) ∙ take-length (list_in l appended)
+  -- what is at the start of the list with the record is at the start of it
+  pub append_prefix : take (length (list_in l appended)) (list_in l f ++ record { stored = r; value = spelled } ∷ []) ≡ list_in l appended
+  append_prefix = ap (take (length (list_in l appended))) (sym append_list) ∙ take-length (list_in l appended)
 
   -- more is there, and no more is known to have settled
   pub append_more : f.values_settled ≤ length f.values → IsMore f appended
   append_more within = record {
-    index = front_added f.index r;
-    values = front_added f.values (frame l.seal spelled);
+    index = prefix_added f.index r;
+    values = prefix_added f.values (frame l.seal spelled);
     index_settled = omega arith;
     values_settled = omega arith;
     within = within;

@@ -4,12 +4,12 @@ use Rattle.std.proofs.lemmas.List.{nil_from_length}
 use Rattle.blob_device.specs.Disk.{Blob, nothing, greatest, longest}
 use Rattle.sealed_pages.specs.SealedPrefix.{sealed_prefix, Prefix}
 use Rattle.section_manager.specs.Lasting.{IsOpening, IsGoing}
-use Rattle.section_manager.specs.Fronts.{IsFront}
+use Rattle.section_manager.specs.Prefixes.{IsPrefixOf}
 use Rattle.paired.specs.glob.Lasting.{Outlasts}
 use Rattle.paired.specs.Records.{records}
 use Rattle.paired.specs.Kept.{Layout}
 use Rattle.paired.specs.Holding.{Facts, IsLasting, IsFading, LeavesNoRecords, ValuesStand}
-use Rattle.paired.specs.lemmas.Records.{records-front}
+use Rattle.paired.specs.lemmas.Records.{records-prefix}
 
 -- a blob under removal was there, or unsure
 pub again : (t u : Bool) → IsTrue (t || (t || u)) → IsTrue (t || u)
@@ -31,22 +31,22 @@ module _ (l : Layout) (f : Facts) where
 
   -- what has settled of the values outlasts every crash
   pub values_of : (b : Blob) → Outlasts (take f.values_settled f.values) f.values b → ValuesStand l f b
-  values_of b outlasts = record { kept = λ left may. go left (outlasts.leaves left may); fronts = outlasts.since }
+  values_of b outlasts = record { kept = λ left may. go left (outlasts.leaves left may); prefixes = outlasts.since }
     where
-      go : (o : Option (List ℕ)) → IsSomeAnd o (IsFront (take f.values_settled f.values)) → IsFront (take f.values_settled f.values) (unwrap_or o [])
+      go : (o : Option (List ℕ)) → IsSomeAnd o (IsPrefixOf (take f.values_settled f.values)) → IsPrefixOf (take f.values_settled f.values) (unwrap_or o [])
       go None is = absurd is
       go (Some c) is = is
 
   -- of values none of which has settled there need be no blob
   pub nothing_stands : f.values_settled ≡ 0 → ValuesStand l f nothing
-  nothing_stands none = record { kept = λ left may. subst (λ (n : ℕ). IsFront (take n f.values) (unwrap_or left [])) (sym none) refl; fronts = λ left may. (refl, tt) }
+  nothing_stands none = record { kept = λ left may. subst (λ (n : ℕ). IsPrefixOf (take n f.values) (unwrap_or left [])) (sym none) refl; prefixes = λ left may. (refl, tt) }
 
   -- the index blob of a section without records
   pub lasting_none : 1 ≤ l.record_size → (b : Blob) → records l.record_size f.index ≡ [] → IsLasting l f b → LeavesNoRecords l b
   lasting_none pos b none lasting c left seals =
       let prefix : Prefix l.seal l.page_size f.index f.index_settled c = lasting (Some c) left seals in
       let rs : List (List ℕ) = records l.record_size (sealed_prefix l.seal l.page_size c) in
-      let first : rs ≡ take (length rs) (records l.record_size f.index) = records-front l.record_size f.index (sealed_prefix l.seal l.page_size c) pos prefix.is prefix.no_longer in
+      let first : rs ≡ take (length rs) (records l.record_size f.index) = records-prefix l.record_size f.index (sealed_prefix l.seal l.page_size c) pos prefix.is prefix.no_longer in
       nil_from_length rs (omega (arith, ap length first, length-take (length rs) (records l.record_size f.index), ap length none))
 
 greatest_none : (n : ℕ) (cs : List (List ℕ)) → greatest n (cs ++ [] ∷ []) ≡ greatest n cs

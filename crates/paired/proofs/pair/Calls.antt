@@ -16,10 +16,10 @@ use Rattle.paired.proofs.pair.Blobs.{lasting_none}
 use Rattle.paired.proofs.pair.Holding.{IsMore, holding_more, no_bytes}
 use Rattle.paired.proofs.pair.Moments.{Stays, this_or_other, values_phase, index_phase, making_phase, removing_phase, copies_phase, keeping_of, keeping_then}
 
--- A pair of which these facts are known, to one of whose sections something is added, and behind its list these entries, or a front of them.
+-- A pair of which these facts are known, to one of whose sections something is added, and behind its list these entries, or a prefix of them.
 module _ (l : Layout) (pos : 1 ≤ l.record_size) (values_apart : l.index ≢ l.values) (metadata_apart : l.index ≢ l.metadata) (both_apart : l.values ≢ l.metadata)
     (facts : ℕ → Facts) (good : (t : ℕ) → AreGood l (facts t)) (within : (t : ℕ) → (facts t).values_settled ≤ length (facts t).values)
-    (s : ℕ) (small : s < 2 ^ 64) (grown : Facts) (is_good : AreGood l grown) (is_more : IsMore (facts s) grown) (extra : List Entry) (is_front : take (length (list_in l grown)) (list_in l (facts s) ++ extra) ≡ list_in l grown) where
+    (s : ℕ) (small : s < 2 ^ 64) (grown : Facts) (is_good : AreGood l grown) (is_more : IsMore (facts s) grown) (extra : List Entry) (is_prefix : take (length (list_in l grown)) (list_in l (facts s) ++ extra) ≡ list_in l grown) where
   -- all sections after it
   abbrev pub grown_facts : ℕ → Facts
   grown_facts t = if eqb t s then grown else facts t
@@ -49,14 +49,14 @@ module _ (l : Layout) (pos : 1 ≤ l.record_size) (values_apart : l.index ≢ l.
       same : (t : ℕ) → IsMore (facts t) (facts t)
       same t = record { index = take-length (facts t).index; values = take-length (facts t).values; index_settled = omega arith; values_settled = omega arith; within = within t; synced = refl }
 
-  grown_front : (t : ℕ) → take (length (list_in l (grown_facts t))) (list_in l (facts t) ++ added t) ≡ list_in l (grown_facts t)
-  grown_front t = elim (eqb_tells t s) [
-    | inl it ↦ subst IsFrontAt (sym it.0) (subst (λ (x : ℕ). take (length (list_in l grown)) (list_in l (facts x) ++ extra) ≡ list_in l grown) (sym it.1) is_front)
-    | inr it ↦ subst IsFrontAt (sym it.0) (take-append_seam (list_in l (facts t)) [])
+  grown_prefix : (t : ℕ) → take (length (list_in l (grown_facts t))) (list_in l (facts t) ++ added t) ≡ list_in l (grown_facts t)
+  grown_prefix t = elim (eqb_tells t s) [
+    | inl it ↦ subst IsPrefixAt (sym it.0) (subst (λ (x : ℕ). take (length (list_in l grown)) (list_in l (facts x) ++ extra) ≡ list_in l grown) (sym it.1) is_prefix)
+    | inr it ↦ subst IsPrefixAt (sym it.0) (take-append_seam (list_in l (facts t)) [])
   ]
     where
-      IsFrontAt : Bool → Type 0
-      IsFrontAt b = take (length (list_in l (if b then grown else facts t))) (list_in l (facts t) ++ (if b then extra else [])) ≡ list_in l (if b then grown else facts t)
+      IsPrefixAt : Bool → Type 0
+      IsPrefixAt b = take (length (list_in l (if b then grown else facts t))) (list_in l (facts t) ++ (if b then extra else [])) ≡ list_in l (if b then grown else facts t)
 
   grown_synced : (t : ℕ) → (facts t).synced ≤ (grown_facts t).synced
   grown_synced = by_section (λ t f. (facts t).synced ≤ f.synced) (omega (arith, is_more.synced)) (λ t. omega arith)
@@ -72,7 +72,7 @@ module _ (l : Layout) (pos : 1 ≤ l.record_size) (values_apart : l.index ≢ l.
 
     keeps_of : (x y : Timeline) → Always x y (Stays l grown_facts Gone one one Touched (disk x)) → Keeps x y
     keeps_of x y always = keeping_of l pos grown_facts Gone Gone one one Touched (λ t. list_in l (facts t) ++ added t) (λ t. (facts t).synced) x y grown_good
-        grown_front grown_synced (λ t gone. gone) always
+        grown_prefix grown_synced (λ t gone. gone) always
 
     module _ (a b : Timeline) (holding : Holding l facts Gone one one (disk a)) (Q : Blob → Type 0) (values : Always a b (OnlyAt (section_key l.values s) (disk a) Q))
         (stand : (x : Blob) → Q x → ValuesStand l grown x ⊎ LeavesNoRecords l (disk a (section_key l.index s))) where

@@ -16,13 +16,13 @@ use Rattle.meta_store.specs.declared.error.Side.TheVariants.{Left, Right}
 use Rattle.meta_store.specs.Blobs.{blob_of, bytes_of}
 use Rattle.meta_store.specs.Crashes as metadata
 use Rattle.meta_store.specs.Pairs.{HoldMap}
-use Rattle.section_manager.specs.Fronts.{IsFront}
-use Rattle.paired.specs.Records.{Entry, records, is_sound, front, entry_of}
+use Rattle.section_manager.specs.Prefixes.{IsPrefixOf}
+use Rattle.paired.specs.Records.{Entry, records, is_sound, unbroken_prefix, entry_of}
 use Rattle.paired.specs.Kept.{Layout, Markers, MarkerMap, IsMarked, marker_of, content_at, stored_records, kept, IsTrueMarker}
 use Rattle.paired.specs.Crashes.{IsPrefix, WasThere, NoChanceSeal, Keeps, Leaves}
 use Rattle.paired.specs.Holding.{Facts, list_in, AreGood, IsLasting, IsFading, IndexStands, LeavesNoRecords, ValuesStand, SectionStands, AreTrue, Holding}
 use Rattle.section_manager.proofs.buffers.NothingSealed.{nothing_sealed}
-use Rattle.paired.specs.lemmas.Records.{length-records, records-front, records-enough}
+use Rattle.paired.specs.lemmas.Records.{length-records, records-prefix, records-enough}
 use Rattle.paired.proofs.KeptLemmas.{kept_prefix, marker_sound, stored_entries, settled_length}
 use Rattle.blob_device.proofs.general.Lists.{all_by, all_take}
 
@@ -75,11 +75,11 @@ module _ (l : Layout) (pos : 1 ≤ l.record_size) where
       let empty : c ≡ [] = nil_from_length c (omega (arith, none, may.1.no_longer)) in
       ap (λ (x : List ℕ). records l.record_size (sealed_prefix l.seal l.page_size x)) empty ∙ empty_records unsealed
 
-  -- Left are a front of the records, and at the front of the values what has settled; and the contents are fronts of the values.
+  -- Left are a prefix of the records, and at the start of the values what has settled; and the contents are prefixes of the values.
   record IsFound (f : Facts) (c cv : List ℕ) (contents : List (List ℕ)) : Type 0 where
     pub prefix : Prefix l.seal l.page_size f.index f.index_settled c
-    pub kept : IsFront (take f.values_settled f.values) cv
-    pub fronts : AllByRecursion (λ x. IsFront x f.values) contents
+    pub kept : IsPrefixOf (take f.values_settled f.values) cv
+    pub prefixes : AllByRecursion (λ x. IsPrefixOf x f.values) contents
 
   -- Of a section: the bytes c of its records and cv of its values that a crash left, and a number of records below which each is kept.
   module _ (f : Facts) (good : AreGood l f) (c cv : List ℕ) (contents : List (List ℕ)) (marker : ℕ) where
@@ -93,13 +93,13 @@ module _ (l : Layout) (pos : 1 ≤ l.record_size) where
 
     -- what is kept of the list
     abbrev list_left : List Entry
-    list_left = map (entry_of l.place cv) (front (λ r. is_sound l.seal cv (l.place r)) marker 0 left_records)
+    list_left = map (entry_of l.place cv) (unbroken_prefix (λ r. is_sound l.seal cv (l.place r)) marker 0 left_records)
 
     enough : Prefix l.seal l.page_size f.index f.index_settled c → f.synced ≤ length left_records
     enough prefix = records-enough l.record_size f.synced (sealed_prefix l.seal l.page_size c) pos (omega (arith, good.index_settled, prefix.no_shorter))
 
     first : Prefix l.seal l.page_size f.index f.index_settled c → left_records ≡ take (length left_records) (records l.record_size f.index)
-    first prefix = records-front l.record_size f.index (sealed_prefix l.seal l.page_size c) pos prefix.is prefix.no_longer
+    first prefix = records-prefix l.record_size f.index (sealed_prefix l.seal l.page_size c) pos prefix.is prefix.no_longer
 
     first_stored : Prefix l.seal l.page_size f.index f.index_settled c → left_records ≡ take (length left_records) (map (λ e. e.stored) (list_in l f))
     first_stored prefix = first prefix ∙ ap (take (length left_records)) (sym (stored_entries l.place f.values (records l.record_size f.index)))
@@ -107,15 +107,15 @@ module _ (l : Layout) (pos : 1 ≤ l.record_size) where
     module _ (marked : marker ≤ f.synced) (found : IsFound f c cv contents) (none : AllByRecursion (λ r. IsKept r → WasThere contents cv (l.place r)) left_records) where
       found_prefix : IsPrefix (list_in l f) f.synced list_left
       found_prefix = kept_prefix l.seal l.place f.values cv (records l.record_size f.index) left_records good.end f.synced f.values_settled marker contents
-          marked (enough found.prefix) (first found.prefix) good.follow good.room good.sound good.values_settled found.kept found.fronts none
+          marked (enough found.prefix) (first found.prefix) good.follow good.room good.sound good.values_settled found.kept found.prefixes none
 
       found_sound : AllByRecursion IsKept (take marker left_records)
       found_sound = marker_sound l.seal l.place f.values cv (records l.record_size f.index) left_records good.end f.synced f.values_settled marker contents
-          marked (enough found.prefix) (first found.prefix) good.follow good.room good.sound good.values_settled found.kept found.fronts none
+          marked (enough found.prefix) (first found.prefix) good.follow good.room good.sound good.values_settled found.kept found.prefixes none
 
     module _ (none : left_records ≡ []) where
       nothing_kept : list_left ≡ []
-      nothing_kept = ap (λ (rs : List (List ℕ)). map (entry_of l.place cv) (front (λ r. is_sound l.seal cv (l.place r)) marker 0 rs)) none
+      nothing_kept = ap (λ (rs : List (List ℕ)). map (entry_of l.place cv) (unbroken_prefix (λ r. is_sound l.seal cv (l.place r)) marker 0 rs)) none
 
       nothing_prefix : f.synced ≡ 0 → IsPrefix (list_in l f) f.synced list_left
       nothing_prefix unsynced = subst (IsPrefix (list_in l f) f.synced) (sym nothing_kept) (record { same = refl; synced = omega (arith, unsynced) })
@@ -128,12 +128,12 @@ module _ (l : Layout) (pos : 1 ≤ l.record_size) where
 
   module _ (facts : ℕ → Facts) (Gone : ℕ → Type 0) (one other : Markers) (d : Disk) (good : (s : ℕ) → AreGood l (facts s)) (holding : Holding l facts Gone one other d)
       (image : Image) (crash : IsCrashOf d image) (seals : NoChanceSeal l d image) where
-    -- what is left of a section: a front of its records, and what has settled of its values; or no record, where none was synced or the section may be gone
+    -- what is left of a section: a prefix of its records, and what has settled of its values; or no record, where none was synced or the section may be gone
     abbrev Outcome : ℕ → Type 0
     Outcome s = IsFound (facts s) (content_at image l.index s) (content_at image l.values s) (past (d (section_key l.values s))) ⊎ ((stored_records l image s ≡ []) × (((facts s).synced ≡ 0) ⊎ Gone s))
 
     module _ (s : ℕ) (lt : s < 2 ^ 64) where
-      -- a front of the section's records is left, with those that had settled
+      -- a prefix of the section's records is left, with those that had settled
       abbrev IsPrefixLeft : Type 0
       IsPrefixLeft = Prefix l.seal l.page_size (facts s).index (facts s).index_settled (content_at image l.index s)
 
@@ -145,7 +145,7 @@ module _ (l : Layout) (pos : 1 ≤ l.record_size) where
 
       with_prefix : IsPrefixLeft → Outcome s
       with_prefix prefix = elim stands.values [
-        | inl values ↦ inl (record { prefix = prefix; kept = values.kept (image (section_key l.values s)) (crash (section_key l.values s)); fronts = values.fronts (image (section_key l.values s)) (crash (section_key l.values s)) })
+        | inl values ↦ inl (record { prefix = prefix; kept = values.kept (image (section_key l.values s)) (crash (section_key l.values s)); prefixes = values.prefixes (image (section_key l.values s)) (crash (section_key l.values s)) })
         | inr none ↦ inr (none_left none, inl (omega (arith, enough (facts s) (good s) (content_at image l.index s) (content_at image l.values s) [] 0 prefix, ap length (none_left none))))
       ]
 
@@ -208,47 +208,47 @@ module _ (l : Layout) (pos : 1 ≤ l.record_size) where
         | inr held ↦ keeps_with facts Gone one other d good holding image crash seals other held holding.other_marked
       ]
 
--- a front of a front is a front
-pub front_front : {X : Type 0} (a b c : List X) → take (length a) b ≡ a → take (length b) c ≡ b → take (length a) c ≡ a
-front_front a b c first second =
+-- a prefix of a prefix is a prefix
+pub prefix_of_prefix : {X : Type 0} (a b c : List X) → take (length a) b ≡ a → take (length b) c ≡ b → take (length a) c ≡ a
+prefix_of_prefix a b c first second =
     let short : length a ≤ length b = omega (arith, length-take (length a) b, ap length first) in
     sym (take-take (length a) (length b) c short) ∙ ap (take (length a)) second ∙ first
 
--- the first n are a front, which is as long as that
+-- the first n are a prefix, which is as long as that
 take_own : {X : Type 0} (n : ℕ) (xs : List X) → take (length (take n xs)) xs ≡ take n xs
 take_own {X = X} n xs = ap (λ (k : ℕ). take k xs) (length-take n xs) ∙ take_min n xs
 
--- a front of the bytes is one of more bytes, and is no shorter than less
-pub prefix_more : (seal : List ℕ → ℕ) (P : ℕ) (bytes more : List ℕ) (least few : ℕ) (c : List ℕ) → IsFront bytes more → few ≤ least → Prefix seal P bytes least c → Prefix seal P more few c
-prefix_more seal P bytes more least few c front le prefix =
+-- a prefix of the bytes is one of more bytes, and is no shorter than less
+pub prefix_more : (seal : List ℕ → ℕ) (P : ℕ) (bytes more : List ℕ) (least few : ℕ) (c : List ℕ) → IsPrefixOf bytes more → few ≤ least → Prefix seal P bytes least c → Prefix seal P more few c
+prefix_more seal P bytes more least few c is_prefix le prefix =
     let left : ℕ = length (sealed_prefix seal P c) in
     record {
-      is = prefix.is ∙ ap (take left) (sym front) ∙ take-take left (length bytes) more prefix.no_longer;
+      is = prefix.is ∙ ap (take left) (sym is_prefix) ∙ take-take left (length bytes) more prefix.no_longer;
       no_shorter = omega (arith, le, prefix.no_shorter);
-      no_longer = omega (arith, prefix.no_longer, settled_length bytes more front);
+      no_longer = omega (arith, prefix.no_longer, settled_length bytes more is_prefix);
     }
 
-pub leaves_more : (seal : List ℕ → ℕ) (P : ℕ) (bytes more : List ℕ) (least few : ℕ) (b : Blob) → IsFront bytes more → few ≤ least → pages.Leaves seal P bytes least b → pages.Leaves seal P more few b
-leaves_more seal P bytes more least few b front le leaves left may = go left (leaves left may)
+pub leaves_more : (seal : List ℕ → ℕ) (P : ℕ) (bytes more : List ℕ) (least few : ℕ) (b : Blob) → IsPrefixOf bytes more → few ≤ least → pages.Leaves seal P bytes least b → pages.Leaves seal P more few b
+leaves_more seal P bytes more least few b is_prefix le leaves left may = go left (leaves left may)
   where
     go : (o : Option (List ℕ)) → IsSomeAnd o (λ c. pages.NoChanceSeal seal P (past b) c → Prefix seal P bytes least c) → IsSomeAnd o (λ c. pages.NoChanceSeal seal P (past b) c → Prefix seal P more few c)
     go None has = has
-    go (Some c) has = λ seals. prefix_more seal P bytes more least few c front le (has seals)
+    go (Some c) has = λ seals. prefix_more seal P bytes more least few c is_prefix le (has seals)
 
--- fronts of values are fronts of more values
-pub fronts_more : (values more : List ℕ) (contents : List (List ℕ)) → IsFront values more → AllByRecursion (λ c. IsFront c values) contents → AllByRecursion (λ c. IsFront c more) contents
-fronts_more values more contents front all = all_by (λ c. IsFront c values) (λ c. IsFront c more) (λ c is. front_front c values more is front) contents all
+-- prefixes of values are prefixes of more values
+pub prefixes_more : (values more : List ℕ) (contents : List (List ℕ)) → IsPrefixOf values more → AllByRecursion (λ c. IsPrefixOf c values) contents → AllByRecursion (λ c. IsPrefixOf c more) contents
+prefixes_more values more contents is_prefix all = all_by (λ c. IsPrefixOf c values) (λ c. IsPrefixOf c more) (λ c is. prefix_of_prefix c values more is is_prefix) contents all
 
--- Fewer of them at the front of a content, and of more values.
-pub kept_more : (values more : List ℕ) (settled few : ℕ) (c : List ℕ) → IsFront values more → few ≤ settled → few ≤ length values → IsFront (take settled values) c → IsFront (take few more) c
-kept_more values more settled few c front le within kept =
-    let same : take few more ≡ take few (take settled values) = sym (take-take few (length values) more within) ∙ ap (take few) front ∙ sym (take-take few settled values le) in
-    subst (λ (x : List ℕ). IsFront x c) (sym same) (front_front (take few (take settled values)) (take settled values) c (take_own few (take settled values)) kept)
+-- Fewer of them at the start of a content, and of more values.
+pub kept_more : (values more : List ℕ) (settled few : ℕ) (c : List ℕ) → IsPrefixOf values more → few ≤ settled → few ≤ length values → IsPrefixOf (take settled values) c → IsPrefixOf (take few more) c
+kept_more values more settled few c is_prefix le within kept =
+    let same : take few more ≡ take few (take settled values) = sym (take-take few (length values) more within) ∙ ap (take few) is_prefix ∙ sym (take-take few settled values le) in
+    subst (λ (x : List ℕ). IsPrefixOf x c) (sym same) (prefix_of_prefix (take few (take settled values)) (take settled values) c (take_own few (take settled values)) kept)
 
 -- Of the second section more is known to be there than of the first, as much was synced, and no more is known to have settled.
 pub record IsMore (f g : Facts) : Type 0 where
-  pub index : IsFront f.index g.index
-  pub values : IsFront f.values g.values
+  pub index : IsPrefixOf f.index g.index
+  pub values : IsPrefixOf f.values g.values
   pub index_settled : g.index_settled ≤ f.index_settled
   pub values_settled : g.values_settled ≤ f.values_settled
   pub within : g.values_settled ≤ length f.values
@@ -256,20 +256,20 @@ pub record IsMore (f g : Facts) : Type 0 where
 
 module _ (l : Layout) (f g : Facts) where
   -- the index blob of a section that has more records, or of which fewer have settled or were synced
-  pub lasting_more : (b : Blob) → IsFront f.index g.index → g.index_settled ≤ f.index_settled → IsLasting l f b → IsLasting l g b
-  lasting_more b front settled lasting = leaves_more l.seal l.page_size f.index g.index f.index_settled g.index_settled b front settled lasting
+  pub lasting_more : (b : Blob) → IsPrefixOf f.index g.index → g.index_settled ≤ f.index_settled → IsLasting l f b → IsLasting l g b
+  lasting_more b is_prefix settled lasting = leaves_more l.seal l.page_size f.index g.index f.index_settled g.index_settled b is_prefix settled lasting
 
-  pub index_more : (Gone May : Type 0) (b : Blob) → (Gone → May) → IsFront f.index g.index → g.index_settled ≤ f.index_settled → g.synced ≤ f.synced → IndexStands l Gone f b → IndexStands l May g b
-  index_more Gone May b may front settled synced (inl lasting) = inl (lasting_more b front settled lasting)
-  index_more Gone May b may front settled synced (inr (inl fading)) =
-      inr (inl (may fading.0, λ c left seals. prefix_more l.seal l.page_size f.index g.index f.index_settled g.index_settled c front settled (fading.1 c left seals)))
-  index_more Gone May b may front settled synced (inr (inr bare)) = inr (inr (bare.0, omega (arith, synced, bare.1)))
+  pub index_more : (Gone May : Type 0) (b : Blob) → (Gone → May) → IsPrefixOf f.index g.index → g.index_settled ≤ f.index_settled → g.synced ≤ f.synced → IndexStands l Gone f b → IndexStands l May g b
+  index_more Gone May b may is_prefix settled synced (inl lasting) = inl (lasting_more b is_prefix settled lasting)
+  index_more Gone May b may is_prefix settled synced (inr (inl fading)) =
+      inr (inl (may fading.0, λ c left seals. prefix_more l.seal l.page_size f.index g.index f.index_settled g.index_settled c is_prefix settled (fading.1 c left seals)))
+  index_more Gone May b may is_prefix settled synced (inr (inr bare)) = inr (inr (bare.0, omega (arith, synced, bare.1)))
 
   -- the value blob of a section that has more values, or of which fewer have settled
-  pub values_more : (b : Blob) → IsFront f.values g.values → g.values_settled ≤ f.values_settled → g.values_settled ≤ length f.values → ValuesStand l f b → ValuesStand l g b
-  values_more b front settled within stand = record {
-    kept = λ left may. kept_more f.values g.values f.values_settled g.values_settled (unwrap_or left []) front settled within (stand.kept left may);
-    fronts = λ left may. fronts_more f.values g.values (past b) front (stand.fronts left may);
+  pub values_more : (b : Blob) → IsPrefixOf f.values g.values → g.values_settled ≤ f.values_settled → g.values_settled ≤ length f.values → ValuesStand l f b → ValuesStand l g b
+  values_more b is_prefix settled within stand = record {
+    kept = λ left may. kept_more f.values g.values f.values_settled g.values_settled (unwrap_or left []) is_prefix settled within (stand.kept left may);
+    prefixes = λ left may. prefixes_more f.values g.values (past b) is_prefix (stand.prefixes left may);
   }
 
   -- both
@@ -369,14 +369,14 @@ module _ (l : Layout) where
 
 -- what is kept of a list is kept of a longer one, of which no more was synced
 pub prefix_list : (list longer : List Entry) (least few : ℕ) (found : List Entry) → take (length list) longer ≡ list → few ≤ least → IsPrefix list least found → IsPrefix longer few found
-prefix_list list longer least few found front le prefix =
+prefix_list list longer least few found is_prefix le prefix =
     let own : take (length found) list ≡ found = sym prefix.same in
-    record { same = sym (front_front found list longer own front); synced = omega (arith, le, prefix.synced) }
+    record { same = sym (prefix_of_prefix found list longer own is_prefix); synced = omega (arith, le, prefix.synced) }
 
 -- A pair that leaves these lists leaves longer ones, of which no more was synced.
 pub leaves_list : (l : Layout) (wanted longer : ℕ → List Entry) (synced few : ℕ → ℕ) (Gone May : ℕ → Type 0) (d : Disk) → ((s : ℕ) → take (length (wanted s)) (longer s) ≡ wanted s) → ((s : ℕ) → few s ≤ synced s) → ((s : ℕ) → Gone s → May s)
     → Leaves l wanted synced Gone d → Leaves l longer few May d
-leaves_list l wanted longer synced few Gone May d front le may leaves image crash seals =
+leaves_list l wanted longer synced few Gone May d is_prefix le may leaves image crash seals =
     let keeps : Keeps l wanted synced Gone image = leaves image crash seals in
     record {
       markers = keeps.markers;
@@ -384,13 +384,13 @@ leaves_list l wanted longer synced few Gone May d front le may leaves image cras
       floor = keeps.floor;
       true_markers = keeps.true_markers;
       lists = λ s lt. elim (keeps.lists s lt) [
-        | inl prefix ↦ inl (prefix_list (wanted s) (longer s) (synced s) (few s) (kept l image (marker_of keeps.markers.entries s) s) (front s) (le s) prefix)
+        | inl prefix ↦ inl (prefix_list (wanted s) (longer s) (synced s) (few s) (kept l image (marker_of keeps.markers.entries s) s) (is_prefix s) (le s) prefix)
         | inr none ↦ inr (none.0, may s none.1)
       ];
-      stored = λ s lt. sym (front_front (stored_records l image s) (map (λ e. e.stored) (wanted s)) (map (λ e. e.stored) (longer s)) (sym (keeps.stored s lt)) (stored_front s));
+      stored = λ s lt. sym (prefix_of_prefix (stored_records l image s) (map (λ e. e.stored) (wanted s)) (map (λ e. e.stored) (longer s)) (sym (keeps.stored s lt)) (stored_prefix s));
     }
   where
-    stored_front : (s : ℕ) → take (length (map (λ e. e.stored) (wanted s))) (map (λ e. e.stored) (longer s)) ≡ map (λ e. e.stored) (wanted s)
-    stored_front s =
+    stored_prefix : (s : ℕ) → take (length (map (λ e. e.stored) (wanted s))) (map (λ e. e.stored) (longer s)) ≡ map (λ e. e.stored) (wanted s)
+    stored_prefix s =
         let stored : Entry → List ℕ = λ e. e.stored in
-        ap (λ (k : ℕ). take k (map stored (longer s))) (length-map (wanted s) stored) ∙ take-map stored (length (wanted s)) (longer s) ∙ ap (map stored) (front s)
+        ap (λ (k : ℕ). take k (map stored (longer s))) (length-map (wanted s) stored) ∙ take-map stored (length (wanted s)) (longer s) ∙ ap (map stored) (is_prefix s)

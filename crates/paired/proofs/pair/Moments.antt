@@ -182,9 +182,9 @@ pub record Stays (l : Layout) (facts : ℕ → Facts) (Gone : ℕ → Type 0) (o
 pub keeping_of : (l : Layout) → 1 ≤ l.record_size → (facts : ℕ → Facts) (Gone May : ℕ → Type 0) (one other : Markers) (MayTouch : Key → Type 0) (wanted : ℕ → List Entry) (synced : ℕ → ℕ) (a b : Timeline)
     → ((s : ℕ) → AreGood l (facts s)) → ((s : ℕ) → take (length (list_in l (facts s))) (wanted s) ≡ list_in l (facts s)) → ((s : ℕ) → synced s ≤ (facts s).synced) → ((s : ℕ) → Gone s → May s)
     → Always a b (Stays l facts Gone one other MayTouch (disk a)) → Keeping l wanted synced May MayTouch a b
-keeping_of l pos facts Gone May one other MayTouch wanted synced a b good front le may always =
+keeping_of l pos facts Gone May one other MayTouch wanted synced a b good prefix le may always =
     always_weaker a b (Stays l facts Gone one other MayTouch (disk a)) (LeavesAlone l wanted synced May MayTouch (disk a)) (λ d stands. record {
-      leaves = leaves_list l (λ s. list_in l (facts s)) wanted (λ s. (facts s).synced) synced Gone May d front le may (leaves_of l pos facts Gone one other d good stands.holding);
+      leaves = leaves_list l (λ s. list_in l (facts s)) wanted (λ s. (facts s).synced) synced Gone May d prefix le may (leaves_of l pos facts Gone one other d good stands.holding);
       others = stands.others;
     }) always
 

@@ -104,11 +104,11 @@ pub frame_spells : (seal : List ℕ → ℕ) (bytes : List ℕ) (at n : ℕ) (sp
 frame_spells seal bytes at n spelled m inside is =
     let number : List ℕ = to_be_bytes w32 m in
     let long : length spelled + 4 ≡ n = sym (length-with_number spelled m) ∙ ap length (sym is) ∙ length-bytes_at bytes at n inside in
-    let front : n - 4 ≡ length spelled = omega (arith, long) in
+    let prefix : n - 4 ≡ length spelled = omega (arith, long) in
     let four : n ≡ (n - 4) + 4 = omega (arith, long) in (
-      sym (take-take (n - 4) n (drop at bytes) (omega arith)) ∙ ap (take (n - 4)) is ∙ ap (λ (k : ℕ). take k (with_number spelled m)) front ∙ take-append_seam spelled number,
+      sym (take-take (n - 4) n (drop at bytes) (omega arith)) ∙ ap (take (n - 4)) is ∙ ap (λ (k : ℕ). take k (with_number spelled m)) prefix ∙ take-append_seam spelled number,
       ap (take 4) (sym (drop-drop (n - 4) at bytes)) ∙ sym (drop-take (n - 4) 4 (drop at bytes)) ∙ ap (λ (k : ℕ). drop (n - 4) (take k (drop at bytes))) (sym four) ∙ ap (drop (n - 4)) is
-          ∙ ap (λ (k : ℕ). drop k (with_number spelled m)) front ∙ drop-append_seam spelled number,
+          ∙ ap (λ (k : ℕ). drop k (with_number spelled m)) prefix ∙ drop-append_seam spelled number,
     )
 
 -- bytes that are sound do not end in another number than their seal

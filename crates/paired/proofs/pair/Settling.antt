@@ -164,9 +164,9 @@ any_blob l IsNamed q (inr is) = inr (is.0, is.1, tt, is.3)
 -- what is kept of lists is kept of longer ones, of which no more was synced, by a call that may touch more
 pub keeping_wider : (l : Layout) (wanted longer : ℕ → List Entry) (synced few : ℕ → ℕ) (Gone : ℕ → Type 0) (Touches May : Key → Type 0) (a b : Timeline)
     → ((s : ℕ) → take (length (wanted s)) (longer s) ≡ wanted s) → ((s : ℕ) → few s ≤ synced s) → ((q : Key) → Touches q → May q) → Keeping l wanted synced Gone Touches a b → Keeping l longer few Gone May a b
-keeping_wider l wanted longer synced few Gone Touches May a b front le may keeping =
+keeping_wider l wanted longer synced few Gone Touches May a b prefix le may keeping =
     always_weaker a b (LeavesAlone l wanted synced Gone Touches (disk a)) (LeavesAlone l longer few Gone May (disk a)) (λ d alone. record {
-      leaves = leaves_list l wanted longer synced few Gone Gone d front le (λ s gone. gone) alone.leaves;
+      leaves = leaves_list l wanted longer synced few Gone Gone d prefix le (λ s gone. gone) alone.leaves;
       others = λ q not. alone.others q (λ is. not (may q is));
     }) keeping
 

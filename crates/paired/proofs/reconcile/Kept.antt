@@ -11,10 +11,10 @@ use Rattle.sealed_pages.specs.declared.page_blob.PageBlob.{PageBlob}
 use Rattle.sealed_pages.specs.declared.write_blob.WriteBlob.{WriteBlob}
 use Rattle.section_manager.specs.declared.buffer.SectionBuffer as buffer
 use Rattle.section_manager.specs.declared.unsealed.WriteFactory.{WriteFactory}
-use Rattle.section_manager.specs.Fronts.{IsFront}
+use Rattle.section_manager.specs.Prefixes.{IsPrefixOf}
 use Rattle.section_manager.specs.Sections.{Sections, section_key, key_of, IsHeld}
 use Rattle.section_manager.specs.Setting.{Setting}
-use Rattle.section_manager.proofs.buffers.UnsealedCalls.{front_itself, front_taken}
+use Rattle.section_manager.proofs.buffers.UnsealedCalls.{prefix_itself, prefix_taken}
 use Rattle.segments.specs.FixedLists.{Lists}
 use Rattle.segments.specs.FixedLists as fixed
 use Rattle.segments.specs.FixedReplay.{kept_of}
@@ -30,7 +30,7 @@ use Rattle.paired.specs.Records.{records, is_sound, entry_of}
 use Rattle.paired.specs.Replaying.{Run, marker, records_over, records_given, is_sound_over}
 use Rattle.paired.proofs.GlobLemmas.{section_counted}
 use Rattle.paired.proofs.KeptLemmas.{EndsBy, follow_ends, sound_parts, sound_settled, settled_bytes, entry_same}
-use Rattle.paired.proofs.opening.Ends.{follow_first, follow_last_end, front_is_sound, marked_is, marked_or_zero}
+use Rattle.paired.proofs.opening.Ends.{follow_first, follow_last_end, prefix_is_sound, marked_is, marked_or_zero}
 use Rattle.paired.proofs.pair.Synced.{end_within}
 use Rattle.paired.specs.lemmas.Records.{map-same}
 use Rattle.paired.proofs.reconcile.Resting.{value_idle, none_of}
@@ -68,7 +68,7 @@ sound_within seal place bytes rs all = all_by (λ r. IsTrue (is_sound seal bytes
 pub sound_longer : (seal : List ℕ → ℕ) (bytes : List ℕ) (k at n : ℕ) → IsTrue (is_sound seal (take k bytes) (at, n)) → IsTrue (is_sound seal bytes (at, n))
 sound_longer seal bytes k at n sound =
     let some : List ℕ = take k bytes in
-    sound_settled seal some bytes (length some) at n (subst (λ (c : List ℕ). IsFront c bytes) (sym (take_all (length some) some (omega arith))) (front_taken k bytes))
+    sound_settled seal some bytes (length some) at n (subst (λ (c : List ℕ). IsPrefixOf c bytes) (sym (take_all (length some) some (omega arith))) (prefix_taken k bytes))
     (omega (arith, (sound_parts seal some at n sound).1, ap length (take_all (length some) some (omega arith)))) sound
 
 module _ {F S : Type 0} {gs : _} {g : buffer.Ghosts (PageBlob S gs)} {gives : F → Setting} {takes : WriteFactory → Setting} {told : Type 0} {run : Run F (PageBlob S gs)} {o : OpenedList} (a : Timeline) (e : Drained g gives takes told run o (disk a)) (t : told)
@@ -92,7 +92,7 @@ module _ {F S : Type 0} {gs : _} {g : buffer.Ghosts (PageBlob S gs)} {gives : F 
   in_place_from s end follow sound = record {
     end = end;
     follow = follow;
-    sound = front_is_sound (is_sound_over run (disk a) s) (marker run s) (marker run s) 0 (records_given run (disk a) s) (omega arith) sound (given_whole e t s);
+    sound = prefix_is_sound (is_sound_over run (disk a) s) (marker run s) (marker run s) 0 (records_given run (disk a) s) (omega arith) sound (given_whole e t s);
   }
 
   pub none_in_place : (s : ℕ) → records_given run (disk a) s ≡ [] → GivesInPlace run (disk a) s
@@ -149,8 +149,8 @@ module _ {F S : Type 0} {gs : _} {g : buffer.Ghosts (PageBlob S gs)} {gives : F 
     new_values s = glob.section_bytes n d s
 
     -- the values are cut where the last one ends
-    pub new_front : (s : ℕ) → IsHeld run.walk.journal.sections s → IsFront (take (last_end run.layout.place (given s)) (old_values s)) (new_values s)
-    new_front s has = subst (IsFront (take (last_end run.layout.place (given s)) (old_values s))) (sym (did.values t s has)) (front_itself (take (last_end run.layout.place (given s)) (old_values s)))
+    pub new_prefix : (s : ℕ) → IsHeld run.walk.journal.sections s → IsPrefixOf (take (last_end run.layout.place (given s)) (old_values s)) (new_values s)
+    new_prefix s has = subst (IsPrefixOf (take (last_end run.layout.place (given s)) (old_values s))) (sym (did.values t s has)) (prefix_itself (take (last_end run.layout.place (given s)) (old_values s)))
 
     module _ (s : ℕ) (has : IsHeld run.walk.journal.sections s) (is : GivesInPlace run (disk a) s) where
       abbrev cut_at : ℕ
@@ -165,12 +165,12 @@ module _ {F S : Type 0} {gs : _} {g : buffer.Ghosts (PageBlob S gs)} {gives : F 
 
       pub still_sound : AllByRecursion (λ r. IsTrue (is_sound run.layout.seal (new_values s) (run.layout.place r))) (given s)
       still_sound = all_with (λ r. (run.layout.place r).0 + (run.layout.place r).1 ≤ length (take (last_end run.layout.place (given s)) (old_values s))) (λ r. IsTrue (is_sound_over run (disk a) s r)) (λ r. IsTrue (is_sound run.layout.seal (new_values s) (run.layout.place r)))
-          (λ r within sound. sound_settled run.layout.seal (old_values s) (new_values s) (last_end run.layout.place (given s)) (run.layout.place r).0 (run.layout.place r).1 (new_front s has) within sound) (given s) all_inside is.sound
+          (λ r within sound. sound_settled run.layout.seal (old_values s) (new_values s) (last_end run.layout.place (given s)) (run.layout.place r).0 (run.layout.place r).1 (new_prefix s has) within sound) (given s) all_inside is.sound
 
       pub still_entries : map (entry_of run.layout.place (new_values s)) (given s) ≡ map (entry_of run.layout.place (old_values s)) (given s)
       still_entries = map-same (entry_of run.layout.place (new_values s)) (entry_of run.layout.place (old_values s)) (given s)
           (all_by (λ r. (run.layout.place r).0 + (run.layout.place r).1 ≤ length (take (last_end run.layout.place (given s)) (old_values s))) (λ r. entry_of run.layout.place (new_values s) r ≡ entry_of run.layout.place (old_values s) r)
-          (λ r within. entry_same run.layout.place (old_values s) (new_values s) r (settled_bytes (old_values s) (new_values s) (last_end run.layout.place (given s)) (run.layout.place r).0 (run.layout.place r).1 (new_front s has) within)) (given s) all_inside)
+          (λ r within. entry_same run.layout.place (old_values s) (new_values s) r (settled_bytes (old_values s) (new_values s) (last_end run.layout.place (given s)) (run.layout.place r).0 (run.layout.place r).1 (new_prefix s has) within)) (given s) all_inside)
 
       -- the values end there
       pub ends_there : glob.section_size n s ≡ last_end run.layout.place (given s)

@@ -27,9 +27,9 @@ use Rattle.paired.specs.Opening.{as_read, IsLawful, MayBeOpened, Recalls}
 use Rattle.paired.specs.OpeningFound.{GivesInPlace}
 use Rattle.paired.specs.Pair.{Pair, IsSafeOn, IsMoving, list_of, synced_length}
 use Rattle.paired.specs.Places.{Follow, last_end}
-use Rattle.paired.specs.Records.{records, is_sound, front, entry_of}
+use Rattle.paired.specs.Records.{records, is_sound, unbroken_prefix, entry_of}
 use Rattle.paired.specs.Replaying.{Run, marker, records_given, is_sound_over}
-use Rattle.paired.proofs.opening.Ends.{front_sound, marked_is, marked_or_zero}
+use Rattle.paired.proofs.opening.Ends.{prefix_sound, marked_is, marked_or_zero}
 use Rattle.paired.proofs.opening.Phases.{copy_or_not, IsPhase, IsBack, not_index, not_values, markers_phase}
 use Rattle.paired.proofs.reconcile.Resting.{known_of, stored_at, values_at, rests_no_chance}
 use Rattle.paired.proofs.reconcile.Start.{Drained, GaveBack}
@@ -102,10 +102,10 @@ module _ {F S : Type 0} {gs : _} {g : buffer.Ghosts (PageBlob S gs)} {gives : F 
       pub list_old : (s : ℕ) → s < 2 ^ 64 → list_of moving (disk f) s ≡ kept run.layout old (marker_of markers.entries s) s
       list_old s small =
           let values : List ℕ = glob.section_bytes n (disk f) s in
-          let whole : front (λ r. is_sound run.layout.seal values (run.layout.place r)) (marker run s) 0 (records_given run (disk a) s) ≡ records_given run (disk a) s =
-          front_sound (λ r. is_sound run.layout.seal values (run.layout.place r)) (marker run s) 0 (records_given run (disk a) s) (sound_values a e t j0 back j n o3 (disk f) did trailing notes s (in_place_old s)) in
+          let whole : unbroken_prefix (λ r. is_sound run.layout.seal values (run.layout.place r)) (marker run s) 0 (records_given run (disk a) s) ≡ records_given run (disk a) s =
+          prefix_sound (λ r. is_sound run.layout.seal values (run.layout.place r)) (marker run s) 0 (records_given run (disk a) s) (sound_values a e t j0 back j n o3 (disk f) did trailing notes s (in_place_old s)) in
           ap (map (entry_of run.layout.place values)) (did.joint.records t s ∙ sym whole)
-          ∙ sym (λ i. map (entry_of run.layout.place (old_values s small i)) (front (λ r. is_sound run.layout.seal (old_values s small i) (run.layout.place r)) (marker_of (same_markers i).entries s) 0 (old_stored s small i)))
+          ∙ sym (λ i. map (entry_of run.layout.place (old_values s small i)) (unbroken_prefix (λ r. is_sound run.layout.seal (old_values s small i) (run.layout.place r)) (marker_of (same_markers i).entries s) 0 (old_stored s small i)))
 
       pub sound_old : IsSafeOn moving (disk f)
       sound_old = record { sound = sound_pair a e t j0 back j n o3 (disk f) did trailing notes may in_place_old; floor = sym (ap (λ (ms : Markers). ms.floor) same_markers) ∙ lawful.floor }

@@ -16,7 +16,7 @@ use Rattle.sealed_pages.specs.declared.page_blob.PageBlob.{PageBlob}
 use Rattle.sealed_pages.specs.declared.write_blob.WriteBlob.{WriteBlob}
 use Rattle.section_manager.specs.declared.buffer.SectionBuffer as buffer
 use Rattle.section_manager.specs.declared.unsealed.WriteFactory.{WriteFactory}
-use Rattle.section_manager.specs.Fronts.{IsFront}
+use Rattle.section_manager.specs.Prefixes.{IsPrefixOf}
 use Rattle.section_manager.specs.SealedLaws as sealed_laws
 use Rattle.section_manager.specs.Sections.{Sections, section_key, key_of, IsHeld}
 use Rattle.section_manager.specs.Setting.{Setting}
@@ -41,7 +41,7 @@ use Rattle.paired.specs.Opening.{as_read, IsLawful, MayBeOpened, Relation, IsOrd
 use Rattle.paired.specs.Pair.{AreApart}
 use Rattle.paired.specs.Places.{last_end}
 use Rattle.paired.specs.Reconciling.{CutTo, EndOf, Shortening}
-use Rattle.paired.specs.Records.{records, front}
+use Rattle.paired.specs.Records.{records, unbroken_prefix}
 use Rattle.paired.proofs.opening.Phases.{IsPhase, IsBack, IsCut, IsTrimmed, IsBare, HasMarkers, not_copy, records_by, values_by}
 use Rattle.paired.specs.lemmas.Records.{length-records}
 use Rattle.paired.proofs.reconcile.Resting.{Resting, Known, MarksRest, known_no_chance, absent_of, index_number, values_number, index_key, values_key, paged, all_of, value_idle, index_settles, index_rest, index_absent, stored_at, none_stored, values_rest, values_absent, frames_at, copy_rest, rests_no_chance, rest_left, rest_there, left_bare, reads_there, reads_absent}
@@ -65,8 +65,8 @@ take_none k c is = ap (take k) is ∙ go k
     go zero = refl
     go (suc n) = refl
 
-front_none : (n : ℕ) (c left : List ℕ) → c ≡ [] → left ≡ [] → IsFront (take n c) left
-front_none n c left none bare = ap (take (length (take n c))) bare ∙ take_none (length (take n c)) [] refl ∙ sym (take_none n c none)
+prefix_none : (n : ℕ) (c left : List ℕ) → c ≡ [] → left ≡ [] → IsPrefixOf (take n c) left
+prefix_none n c left none bare = ap (take (length (take n c))) bare ∙ take_none (length (take n c)) [] refl ∙ sym (take_none n c none)
 
 take_min : (k n : ℕ) (c : List ℕ) → k ≡ length c → take (min k n) c ≡ take n c
 take_min k n c is = elim (cases_lt n k) [
@@ -74,9 +74,9 @@ take_min k n c is = elim (cases_lt n k) [
   | inr more ↦ take_all (min k n) c (omega (arith, is, more)) ∙ sym (take_all n c (omega (arith, is, more)))
 ]
 
-front_of : (kept : List ℕ) (left : Option (List ℕ)) → IsSomeAnd left (IsFront kept) → IsFront kept (unwrap_or left [])
-front_of kept None is = absurd is
-front_of kept (Some c) is = is
+prefix_of : (kept : List ℕ) (left : Option (List ℕ)) → IsSomeAnd left (IsPrefixOf kept) → IsPrefixOf kept (unwrap_or left [])
+prefix_of kept None is = absurd is
+prefix_of kept (Some c) is = is
 
 ends_both : {S : Type 0} {gs : _} (y : Option (PageBlob S gs)) (v : Option WriteBlob) (n : ℕ) → IsSomeAnd (option_map (λ w. n) y) (λ k. IsSomeAnd v (λ w. k < count_of w)) → IsSome y × IsSome v
 ends_both None v n is = absurd is
@@ -176,7 +176,7 @@ module _ {F S : Type 0} {gs : _} {g : buffer.Ghosts (PageBlob S gs)} {gives : F 
     index_still s = values_cut_only (section_key l.index s) (λ is. apart.values (ap (λ (k : Key). k.0) is.3))
 
     module _ (bare : Bare l j.sections m d) (readable : (q : Key) → MayLeave (d q) (reads (d q))) (map_readable : IsReadable l.markers)
-        (whole : (s : ℕ) → s < 2 ^ 64 → front (is_sound_in l (as_read d) s) (marker_of u.entries s) 0 (stored_records l (as_read d) s) ≡ stored_records l (as_read d) s) where
+        (whole : (s : ℕ) → s < 2 ^ 64 → unbroken_prefix (is_sound_in l (as_read d) s) (marker_of u.entries s) 0 (stored_records l (as_read d) s) ≡ stored_records l (as_read d) s) where
       pub trimming : IsPhase l apart d x (λ s. is_some (j.sections.held s)) false
       trimming = record {
         readable = λ q own. readable q;
@@ -193,9 +193,9 @@ module _ {F S : Type 0} {gs : _} {g : buffer.Ghosts (PageBlob S gs)} {gives : F 
       abbrev ending : ℕ → ℕ
       ending s = last_end l.place (records l.record_size (fixed.section_bytes j.sections d s))
 
-      trim_left : (s : ℕ) → s < 2 ^ 64 → IsHeld j.sections s → (left : Option (List ℕ)) → MayLeave (x (section_key l.values s)) left → IsFront (take (ending s) (content_at (as_read d) l.values s)) (unwrap_or left [])
+      trim_left : (s : ℕ) → s < 2 ^ 64 → IsHeld j.sections s → (left : Option (List ℕ)) → MayLeave (x (section_key l.values s)) left → IsPrefixOf (take (ending s) (content_at (as_read d) l.values s)) (unwrap_or left [])
       trim_left s small held left may = elim (none_or_value (m.held s)) [
-        | inl none ↦ front_none (ending s) (content_at (as_read d) l.values s) (unwrap_or left [])
+        | inl none ↦ prefix_none (ending s) (content_at (as_read d) l.values s) (unwrap_or left [])
             (ap (λ (y : Option (List ℕ)). unwrap_or y []) (reads_absent (d (section_key l.values s)) (values_absent rests.parts t s small none)))
             (left_bare (d (section_key l.values s)) (bare.values s small none) left (subst (λ (b : Blob). MayLeave b left) (values_still s small none) may))
         | inr some ↦ elim (none_or_value (j.sections.held s)) [
@@ -208,9 +208,9 @@ module _ {F S : Type 0} {gs : _} {g : buffer.Ghosts (PageBlob S gs)} {gives : F 
               let bytes : content_of v content ≡ content = sym (rest.1 ∙ ap (λ (y : Option WriteBlob). glob.bytes_held y (d (key_of m s)).content) some.1 ∙ ap (λ (k : Key). content_of v (d k).content) (values_key rests.parts s)) in
               let long : v.settled ≡ length content = (value_idle rests.parts s v some.1).0 ∙ sym (counted v (d (key_of m s)) stands) ∙ ap (λ (k : Key). length (content_of v (d k).content)) (values_key rests.parts s) ∙ ap length bytes in
               let out : Outlasts (settled_to (ending s) v content) (content_of v content) (x (section_key l.values s)) = (each (section_key l.values s)).shortened s (ending s) v (ap (λ (y : Option (PageBlob S gs)). option_map (λ w. ending s) y) has.1) some.1 (sym (values_key rests.parts s)) in
-              subst (λ (c : List ℕ). IsFront (take (ending s) c) (unwrap_or left [])) (sym (ap (λ (y : Option (List ℕ)). unwrap_or y []) (reads_there (d (section_key l.values s)) (rest_there (d (section_key l.values s)) rest.0))))
-              (subst (λ (c : List ℕ). IsFront c (unwrap_or left [])) (ap (take (min v.settled (ending s))) bytes ∙ take_min v.settled (ending s) content long)
-              (front_of (settled_to (ending s) v content) left (out.leaves left may)))
+              subst (λ (c : List ℕ). IsPrefixOf (take (ending s) c) (unwrap_or left [])) (sym (ap (λ (y : Option (List ℕ)). unwrap_or y []) (reads_there (d (section_key l.values s)) (rest_there (d (section_key l.values s)) rest.0))))
+              (subst (λ (c : List ℕ). IsPrefixOf c (unwrap_or left [])) (ap (take (min v.settled (ending s))) bytes ∙ take_min v.settled (ending s) content long)
+              (prefix_of (settled_to (ending s) v content) left (out.leaves left may)))
         ]
       ]
 
@@ -310,7 +310,7 @@ module _ {F S : Type 0} {gs : _} {g : buffer.Ghosts (PageBlob S gs)} {gives : F 
     cut_at s p small is = record {
       p = p;
       high = (bounds.from s p is).1;
-      fronts = bounds.fronts s p small is;
+      prefixes = bounds.prefixes s p small is;
       leaves = cuts.leaves s p small is;
       values = λ left left_may. values_left known t (bare_of known t may) s small left (subst (λ (b : Blob). MayLeave b left) (values_same s) left_may);
     }

@@ -19,7 +19,7 @@ use Rattle.paired.specs.glob.Sections as glob
 use Rattle.paired.specs.Opening.{MayBeOpened, Same}
 use Rattle.paired.specs.Places.{last_end}
 use Rattle.paired.specs.Reconciling.{CutTo, EndOf, Shortening}
-use Rattle.paired.specs.Records.{records, is_sound, front}
+use Rattle.paired.specs.Records.{records, is_sound, unbroken_prefix}
 use Rattle.paired.specs.Replaying.{Run, IsClean, marker, records_over, records_given}
 use Rattle.paired.proofs.reconcile.Resting.{values_number, values_key}
 use Rattle.paired.proofs.reconcile.Start.{Drained, GaveBack, end_of, given_to, given_whole, ends_of}
@@ -86,7 +86,7 @@ module _ {F S : Type 0} {gs : _} {g : buffer.Ghosts (PageBlob S gs)} {gives : F 
 
     pub values_stage : Stage run 1 (disk a) b c
     values_stage = step_wider run.layout Same (MayBeOpened run.layout (disk a)) (IsKeyOf run.values (λ s. IsSomeAnd (EndOf run.layout.place run.layout.record_size j.sections (disk b) s) (glob.IsLonger run.values s))) (λ q. Kind run 1 q × IsDirty run (disk a) q) b c touches
-        (values_step Same same_order e.over.apart map_readable t b j run.values o1 joint (λ s. (λ i. front (λ r. is_sound run.layout.seal (bytes s i) (run.layout.place r)) (marker run s) 0 (records_given run (disk a) s)) ∙ given_whole e t s) c moments)
+        (values_step Same same_order e.over.apart map_readable t b j run.values o1 joint (λ s. (λ i. unbroken_prefix (λ r. is_sound run.layout.seal (bytes s i) (run.layout.place r)) (marker run s) 0 (records_given run (disk a) s)) ∙ given_whole e t s) c moments)
 
   -- ---- values without records are removed
   module _ (c : Timeline) (j : Lists F (PageBlob S gs)) (m : Sections WriteFactory WriteBlob) (o2 : OpenedList) (joint : Joint g gives takes told run (disk a) j m o2 (disk c)) (held : (s : ℕ) → IsHeld m s ↔ IsHeld run.values s)

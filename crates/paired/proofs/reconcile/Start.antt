@@ -17,12 +17,12 @@ use Rattle.segments.proofs.adding.WriteLemmas.{ArePages}
 use Rattle.paired.specs.glob.Sections as glob
 use Rattle.paired.specs.Kept.{content_at, stored_records, is_sound_in, kept}
 use Rattle.paired.specs.Opening.{as_read, Same}
-use Rattle.paired.specs.Records.{records, is_sound, front, entry_of}
+use Rattle.paired.specs.Records.{records, is_sound, unbroken_prefix, entry_of}
 use Rattle.paired.specs.Replaying.{Run, HasFailed, HasLostNone, IsUnbroken, IsGood, IsEnd, IsChecked, IsOpeningRun, IsRun, pair_of, marker, records_over, records_given, is_sound_over}
 use Rattle.paired.proofs.GlobLemmas.{buffers}
 use Rattle.paired.proofs.KeptLemmas.{stored_entries}
 use Rattle.paired.proofs.Ends.{Ends}
-use Rattle.paired.proofs.opening.Ends.{IsGoodAt, same_order, front_stops, front_all, front_cut}
+use Rattle.paired.proofs.opening.Ends.{IsGoodAt, same_order, prefix_stops, prefix_all, prefix_cut}
 use Rattle.paired.proofs.pair.Synced.{Here}
 use Rattle.paired.proofs.reconcile.Resting.{Resting, stored_at, values_at, index_settles}
 use Rattle.blob_device.proofs.general.Options.{none_or_value}
@@ -79,8 +79,8 @@ module _ {F S : Type 0} {gs : _} {g : buffer.Ghosts (PageBlob S gs)} {gives : F 
       | inr left ↦ absurd (none_left s p left)
     ]
 
-    front_given : (s : ℕ) → records_given run d s ≡ front (is_sound_over run d s) (marker run s) 0 (records_over run d s)
-    front_given s = ap (λ (b : Bool). cond b (front (is_sound_over run d s) (marker run s) 0 (records_over run d s)) (records_over run d s)) e.tracked
+    prefix_given : (s : ℕ) → records_given run d s ≡ unbroken_prefix (is_sound_over run d s) (marker run s) 0 (records_over run d s)
+    prefix_given s = ap (λ (b : Bool). cond b (unbroken_prefix (is_sound_over run d s) (marker run s) 0 (records_over run d s)) (records_over run d s)) e.tracked
 
     good_at : (s q : ℕ) → IsGood run d s q → IsGoodAt (is_sound_over run d s) (marker run s) 0 (records_over run d s) q
     good_at s q (inl lt) = inl (omega (arith, lt))
@@ -88,12 +88,12 @@ module _ {F S : Type 0} {gs : _} {g : buffer.Ghosts (PageBlob S gs)} {gives : F 
 
     -- what it gave of a section without an end, and of one with an end
     pub given_all : (s : ℕ) → run.ends.at s ≡ None → records_given run d s ≡ records_over run d s
-    given_all s none = front_given s ∙ front_all (is_sound_over run d s) (marker run s) (records_over run d s) (λ q lt. good_at s q (all_good s q none lt))
+    given_all s none = prefix_given s ∙ prefix_all (is_sound_over run d s) (marker run s) (records_over run d s) (λ q lt. good_at s q (all_good s q none lt))
 
     pub given_to : (s p : ℕ) → run.ends.at s ≡ Some p → records_given run d s ≡ take p (records_over run d s)
     given_to s p is =
         let end = end_of s p is in
-        front_given s ∙ front_stops (is_sound_over run d s) (marker run s) 0 p (records_over run d s) (omega (arith, end.within)) (λ q lt. good_at s q (end.good q lt)) (inr (omega (arith, end.from), end.fails))
+        prefix_given s ∙ prefix_stops (is_sound_over run d s) (marker run s) 0 p (records_over run d s) (omega (arith, end.within)) (λ q lt. good_at s q (end.good q lt)) (inr (omega (arith, end.from), end.fails))
 
     -- each record that was given is good, and all of them are given of what was given
     pub given_good : (s q : ℕ) → q < length (records_given run d s) → IsGoodAt (is_sound_over run d s) (marker run s) 0 (records_given run d s) q
@@ -112,8 +112,8 @@ module _ {F S : Type 0} {gs : _} {g : buffer.Ghosts (PageBlob S gs)} {gives : F 
         shorter p (inl below) same = inl below
         shorter p (inr is) same = inr (ap (is_sound_over run d s) same ∙ is)
 
-    pub given_whole : (s : ℕ) → front (is_sound_over run d s) (marker run s) 0 (records_given run d s) ≡ records_given run d s
-    given_whole s = front_all (is_sound_over run d s) (marker run s) (records_given run d s) (given_good s)
+    pub given_whole : (s : ℕ) → unbroken_prefix (is_sound_over run d s) (marker run s) 0 (records_given run d s) ≡ records_given run d s
+    given_whole s = prefix_all (is_sound_over run d s) (marker run s) (records_given run d s) (given_good s)
 
   -- ---- the journal that the replay gives back
   module _ (j : Lists F (PageBlob S gs)) (back : GaveBack run j) where
@@ -196,19 +196,19 @@ module _ {F S : Type 0} {gs : _} {g : buffer.Ghosts (PageBlob S gs)} {gives : F 
       -- and what the disk keeps is what was given
       pub kept_given : (s : ℕ) → s < 2 ^ 64 → kept run.layout (as_read d) (marker run s) s ≡ map (entry_of run.layout.place (glob.section_bytes run.values d s)) (records_given run d s)
       kept_given s small =
-          (λ i. map (entry_of run.layout.place (values_at back_rests.parts t s small i)) (front (over_sound s small i) (marker run s) 0 (over_stored s small i)))
-          ∙ ap (map (entry_of run.layout.place (glob.section_bytes run.values d s))) (sym (front_given t s))
+          (λ i. map (entry_of run.layout.place (values_at back_rests.parts t s small i)) (unbroken_prefix (over_sound s small i) (marker run s) 0 (over_stored s small i)))
+          ∙ ap (map (entry_of run.layout.place (glob.section_bytes run.values d s))) (sym (prefix_given t s))
 
       pub kept_stored : (s : ℕ) → s < 2 ^ 64 → map (λ x. x.stored) (kept run.layout (as_read d) (marker run s) s) ≡ records_given run d s
       kept_stored s small = ap (map (λ x. x.stored)) (kept_given s small) ∙ stored_entries run.layout.place (glob.section_bytes run.values d s) (records_given run d s)
 
-      fronts_of : (s p : ℕ) → s < 2 ^ 64 → run.ends.at s ≡ Some p → (k : ℕ) → p ≤ k → k ≤ length (stored_records run.layout (as_read d) s)
-          → map (entry_of run.layout.place (content_at (as_read d) run.layout.values s)) (front (is_sound_in run.layout (as_read d) s) (marker run s) 0 (take k (stored_records run.layout (as_read d) s))) ≡ kept run.layout (as_read d) (marker run s) s
-      fronts_of s p small is k le few =
+      prefixes_of : (s p : ℕ) → s < 2 ^ 64 → run.ends.at s ≡ Some p → (k : ℕ) → p ≤ k → k ≤ length (stored_records run.layout (as_read d) s)
+          → map (entry_of run.layout.place (content_at (as_read d) run.layout.values s)) (unbroken_prefix (is_sound_in run.layout (as_read d) s) (marker run s) 0 (take k (stored_records run.layout (as_read d) s))) ≡ kept run.layout (as_read d) (marker run s) s
+      prefixes_of s p small is k le few =
           let end = end_of t s p is in
           let same = over_stored s small in
           let sounds = over_sound s small in
-          ap (map (entry_of run.layout.place (content_at (as_read d) run.layout.values s))) (front_cut (is_sound_in run.layout (as_read d) s) (marker run s) p k (stored_records run.layout (as_read d) s) le few
+          ap (map (entry_of run.layout.place (content_at (as_read d) run.layout.values s))) (prefix_cut (is_sound_in run.layout (as_read d) s) (marker run s) p k (stored_records run.layout (as_read d) s) le few
           (omega (arith, end.within, ap length same)) (λ q lt. good_as q (end.good q lt)) (omega (arith, end.from)) ((λ i. sounds i (get_or (same i) p [])) ∙ end.fails))
         where
           good_as : (q : ℕ) → IsGood run d s q → IsGoodAt (is_sound_in run.layout (as_read d) s) (marker run s) 0 (stored_records run.layout (as_read d) s) q
@@ -226,5 +226,5 @@ module _ {F S : Type 0} {gs : _} {g : buffer.Ghosts (PageBlob S gs)} {gives : F 
       within = λ t s p is. omega (arith, (end_of t s p is).within, ap length (over_records t s));
       gives_all = λ t s none. given_all t s none ∙ over_records t s;
       gives_to = λ t s p is. given_to t s p is ∙ ap (take p) (over_records t s);
-      fronts = λ t s p small is k le few. fronts_of t s p small is k le few;
+      prefixes = λ t s p small is k le few. prefixes_of t s p small is k le few;
     }

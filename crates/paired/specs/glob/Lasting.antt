@@ -5,14 +5,14 @@ use Rattle.sealed_pages.specs.declared.write_blob.WriteBlob.{WriteBlob}
 use Rattle.section_manager.specs.Sections.{Sections, key_of, IsKnown, IsKeyOf}
 use Rattle.section_manager.specs.Lasting.{IsOpening, Going}
 use Rattle.section_manager.specs.unsealed.Buffer.{content_of}
-use Rattle.section_manager.specs.Fronts.{IsFront}
-use Rattle.paired.specs.glob.Sections.{HadFronts, IsUnsettled, IsLonger}
+use Rattle.section_manager.specs.Prefixes.{IsPrefixOf}
+use Rattle.paired.specs.glob.Sections.{HadPrefixes, IsUnsettled, IsLonger}
 
--- Each crash leaves the blob, and the kept bytes at its front. Where a crash may leave it at all, each content that the blob has had since
--- it settled is a front of all the bytes.
+-- Each crash leaves the blob, and the kept bytes at its start. Where a crash may leave it at all, each content that the blob has had since
+-- it settled is a prefix of all the bytes.
 pub record Outlasts (kept bytes : List ℕ) (b : Blob) : Type 0 where
-  pub leaves : (left : Option (List ℕ)) → MayLeave b left → IsSomeAnd left (IsFront kept)
-  pub since : (left : Option (List ℕ)) → MayLeave b left → HadFronts bytes b
+  pub leaves : (left : Option (List ℕ)) → MayLeave b left → IsSomeAnd left (IsPrefixOf kept)
+  pub since : (left : Option (List ℕ)) → MayLeave b left → HadPrefixes bytes b
 
 -- what has settled of a buffer over a blob of this content, and of that the first n bytes
 abbrev pub settled_bytes : WriteBlob → List ℕ → List ℕ
@@ -21,7 +21,7 @@ settled_bytes u content = take u.settled (content_of u content)
 abbrev pub settled_to : ℕ → WriteBlob → List ℕ → List ℕ
 settled_to n u content = take (min u.settled n) (content_of u content)
 
--- The blob is made, or being made; then each crash leaves it, and each content that it has had since is a front of these bytes.
+-- The blob is made, or being made; then each crash leaves it, and each content that it has had since is a prefix of these bytes.
 abbrev pub IsBeginning : List ℕ → Blob → Blob → Type 0
 IsBeginning bytes from b = IsOpening from b ⊎ Outlasts [] bytes b
 

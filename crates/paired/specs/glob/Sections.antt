@@ -6,7 +6,7 @@ use Rattle.sealed_pages.specs.declared.write_blob.WriteBlob.{WriteBlob}
 use Rattle.sealed_pages.specs.Contents.{AllSince}
 use Rattle.sealed_pages.specs.unsealed.Writing.{shown, is_idle, size_of, Joins, AllPending, StandsBehind}
 use Rattle.section_manager.specs.declared.buffer.SectionBuffer as buffer
-use Rattle.section_manager.specs.Fronts.{IsFront}
+use Rattle.section_manager.specs.Prefixes.{IsPrefixOf}
 use Rattle.section_manager.specs.Setting.{Setting}
 use Rattle.section_manager.specs.Sections.{Sections, key_of, IsOver}
 use Rattle.section_manager.specs.unsealed.Buffer.{content_of, count_of, is_unsettled, IsWhole}
@@ -72,17 +72,17 @@ module _ {F : Type 0} (m : Sections F WriteBlob) where
 abbrev pub TakesMore : WriteBlob → Type 0
 TakesMore u = Joins (shown u) (size_of (shown u)) ⊎ (is_idle (shown u) ≡ true)
 
--- each content that the blob has had since it settled is a front of these bytes
-abbrev pub HadFronts : List ℕ → Blob → Type 0
-HadFronts bytes b = AllSince (λ c. IsFront c bytes) b
+-- each content that the blob has had since it settled is a prefix of these bytes
+abbrev pub HadPrefixes : List ℕ → Blob → Type 0
+HadPrefixes bytes b = AllSince (λ c. IsPrefixOf c bytes) b
 
 -- The glob's sections are those of the partition, take more bytes at their end, and have nothing pending below the end of their blobs.
 -- Where the disk is told, bytes were only added since the settled ones settled, each content that a section's blob has had since then
--- is a front of the section's bytes, and what is known and not held stands above the bound of the opening.
+-- is a prefix of the section's bytes, and what is known and not held stands above the bound of the opening.
 pub record IsGlob {F : Type 0} (g : buffer.Ghosts WriteBlob) (gives : F → Setting) (told : Type 0) (m : Sections F WriteBlob) (opened : OpenedList) (d : Disk) : Type 0 where
   pub over : IsOver g gives told m opened d
   pub ends : (s : ℕ) (u : WriteBlob) → m.held s ≡ Some u → TakesMore u
   pub behind : (s : ℕ) (u : WriteBlob) → m.held s ≡ Some u → StandsBehind (shown u)
   pub whole : told → (s : ℕ) (u : WriteBlob) → m.held s ≡ Some u → IsWhole u (d (key_of m s))
-  pub fronts : told → (s : ℕ) (u : WriteBlob) → m.held s ≡ Some u → HadFronts (section_bytes m d s) (d (key_of m s))
+  pub prefixes : told → (s : ℕ) (u : WriteBlob) → m.held s ≡ Some u → HadPrefixes (section_bytes m d s) (d (key_of m s))
   pub unopened : told → (s : ℕ) → IsSome (m.unopened s) → m.ceiling < s

@@ -1,4 +1,4 @@
--- Lists of records: those of a front of the bytes are a front of the records; what `front` keeps; and facts that hold of each record.
+-- Lists of records: those of a prefix of the bytes are a prefix of the records; what `unbroken_prefix` keeps; and facts that hold of each record.
 use Rattle.std.proofs.Common.{◌≡◌, ℕ, zero, suc, ◌+◌, ◌-◌, ◌*◌, ◌/◌, ◌<◌, ◌≤◌, Bool, true, false, ◌||◌, nat_lt, if◌then◌else◌, List, [], ◌∷◌, length, map, take, drop, get_or, IsTrue, refl, sym, ◌∙◌, ap, arith, length-take-le}
 use Rattle.std.specs.List.{AllByRecursion}
 use Rattle.std.proofs.lemmas.Bool.{le-ltb, or_right}
@@ -8,7 +8,7 @@ use Rattle.std.proofs.Math.Nat.{div-mul-le_self}
 use Rattle.segments.specs.FixedItems.{item_count, item_at}
 use Rattle.paired.specs.Frames.{bytes_at}
 use Rattle.paired.specs.Places.{last_end}
-use Rattle.paired.specs.Records.{each_below, records, front}
+use Rattle.paired.specs.Records.{each_below, records, unbroken_prefix}
 use Rattle.blob_device.proofs.general.Numbers.{item_ends}
 
 pub length-each_below : {X : Type 0} (n : ℕ) (f : ℕ → X) → length (each_below n f) ≡ n
@@ -26,7 +26,7 @@ take-each_below zero n f le = refl
 take-each_below (suc k) zero f le = absurd (omega (arith, le))
 take-each_below {X} (suc k) (suc n) f le = ap (λ (xs : List X). f 0 ∷ xs) (take-each_below k n (λ i. f (i + 1)) (omega (arith, le)))
 
--- bytes that stand in a front stand in the whole
+-- bytes that stand in a prefix stand in the whole
 pub bytes_at-take : (at n m : ℕ) (bytes : List ℕ) → at + n ≤ m → bytes_at (take m bytes) at n ≡ bytes_at bytes at n
 bytes_at-take at n m bytes le =
     let split : m ≡ at + (m - at) = omega (arith, le) in
@@ -42,10 +42,10 @@ records-take size n bytes pos le =
     ∙ each_below-same (n / size) (item_at size (take n bytes)) (item_at size bytes) (λ p lt. bytes_at-take (p * size) size n bytes (item_ends size n p lt))
     ∙ sym (take-each_below (n / size) (length bytes / size) (item_at size bytes) fits)
 
--- the records of a front of the bytes are the first ones
-pub records-front : (size : ℕ) (bytes kept : List ℕ) → 1 ≤ size → kept ≡ take (length kept) bytes → length kept ≤ length bytes
+-- the records of a prefix of the bytes are the first ones
+pub records-prefix : (size : ℕ) (bytes kept : List ℕ) → 1 ≤ size → kept ≡ take (length kept) bytes → length kept ≤ length bytes
     → records size kept ≡ take (length (records size kept)) (records size bytes)
-records-front size bytes kept pos is le =
+records-prefix size bytes kept pos is le =
     ap (records size) is ∙ records-take size (length kept) bytes pos le ∙ ap (λ (k : ℕ). take k (records size bytes)) (sym (length-records size kept))
 
 -- so many records are whole in the bytes
@@ -58,38 +58,38 @@ map-same {X} {Y} f g (x ∷ xs) all = ap (λ (y : Y). y ∷ map f xs) all.0 ∙ 
 
 module _ (sound : List ℕ → Bool) (marker : ℕ) where
   -- what is kept is the first ones
-  pub front-take : (position : ℕ) (rs : List (List ℕ)) → front sound marker position rs ≡ take (length (front sound marker position rs)) rs
-  front-take position [] = refl
-  front-take position (r ∷ rs) = step (nat_lt position marker || sound r) (front sound marker (position + 1) rs) (front-take (position + 1) rs)
+  pub prefix-take : (position : ℕ) (rs : List (List ℕ)) → unbroken_prefix sound marker position rs ≡ take (length (unbroken_prefix sound marker position rs)) rs
+  prefix-take position [] = refl
+  prefix-take position (r ∷ rs) = step (nat_lt position marker || sound r) (unbroken_prefix sound marker (position + 1) rs) (prefix-take (position + 1) rs)
     where
       step : (b : Bool) (tail : List (List ℕ)) → tail ≡ take (length tail) rs → (if b then r ∷ tail else []) ≡ take (length (if b then r ∷ tail else [])) (r ∷ rs)
       step true tail is = ap (λ (xs : List (List ℕ)). r ∷ xs) is
       step false tail is = refl
 
   -- at least so many, where the first ones are sound
-  pub front-enough : (k position : ℕ) (rs : List (List ℕ)) → k ≤ length rs → AllByRecursion (λ r. IsTrue (sound r)) (take k rs) → k ≤ length (front sound marker position rs)
-  front-enough zero position rs le all = omega arith
-  front-enough (suc k) position [] le all = absurd (omega (arith, le))
-  front-enough (suc k) position (r ∷ rs) le all =
-      step (nat_lt position marker || sound r) (front sound marker (position + 1) rs) (or_right (nat_lt position marker) (sound r) all.0) (front-enough k (position + 1) rs (omega (arith, le)) all.1)
+  pub prefix-enough : (k position : ℕ) (rs : List (List ℕ)) → k ≤ length rs → AllByRecursion (λ r. IsTrue (sound r)) (take k rs) → k ≤ length (unbroken_prefix sound marker position rs)
+  prefix-enough zero position rs le all = omega arith
+  prefix-enough (suc k) position [] le all = absurd (omega (arith, le))
+  prefix-enough (suc k) position (r ∷ rs) le all =
+      step (nat_lt position marker || sound r) (unbroken_prefix sound marker (position + 1) rs) (or_right (nat_lt position marker) (sound r) all.0) (prefix-enough k (position + 1) rs (omega (arith, le)) all.1)
     where
       step : (b : Bool) (tail : List (List ℕ)) → b ≡ true → k ≤ length tail → suc k ≤ length (if b then r ∷ tail else [])
       step true tail is more = omega (arith, more)
       step false tail is more = absurd (cc is)
 
   -- What holds of the records below the marker, and of each that is sound, holds of those kept; `left` are below the marker from here on.
-  pub front-all : (Q : List ℕ → Type 0) (left position : ℕ) (rs : List (List ℕ)) → left ≡ marker - position → AllByRecursion Q (take left rs) → AllByRecursion (λ r. IsTrue (sound r) → Q r) rs
-      → AllByRecursion Q (front sound marker position rs)
-  front-all Q left position [] is below all = tt
-  front-all Q zero position (r ∷ rs) is below all =
-      step (nat_lt position marker) (sound r) (front sound marker (position + 1) rs) (le-ltb position marker (omega (arith, is))) all.0 (front-all Q zero (position + 1) rs (omega (arith, is)) tt all.1)
+  pub prefix-all : (Q : List ℕ → Type 0) (left position : ℕ) (rs : List (List ℕ)) → left ≡ marker - position → AllByRecursion Q (take left rs) → AllByRecursion (λ r. IsTrue (sound r) → Q r) rs
+      → AllByRecursion Q (unbroken_prefix sound marker position rs)
+  prefix-all Q left position [] is below all = tt
+  prefix-all Q zero position (r ∷ rs) is below all =
+      step (nat_lt position marker) (sound r) (unbroken_prefix sound marker (position + 1) rs) (le-ltb position marker (omega (arith, is))) all.0 (prefix-all Q zero (position + 1) rs (omega (arith, is)) tt all.1)
     where
       step : (b s : Bool) (tail : List (List ℕ)) → b ≡ false → (s ≡ true → Q r) → AllByRecursion Q tail → AllByRecursion Q (if b || s then r ∷ tail else [])
       step true s tail none here more = absurd (cc none)
       step false true tail none here more = (here refl, more)
       step false false tail none here more = tt
-  front-all Q (suc left) position (r ∷ rs) is below all =
-      step (nat_lt position marker || sound r) (front sound marker (position + 1) rs) below.0 (front-all Q left (position + 1) rs (omega (arith, is)) below.1 all.1)
+  prefix-all Q (suc left) position (r ∷ rs) is below all =
+      step (nat_lt position marker || sound r) (unbroken_prefix sound marker (position + 1) rs) below.0 (prefix-all Q left (position + 1) rs (omega (arith, is)) below.1 all.1)
     where
       step : (b : Bool) (tail : List (List ℕ)) → Q r → AllByRecursion Q tail → AllByRecursion Q (if b then r ∷ tail else [])
       step true tail here more = (here, more)

@@ -55,15 +55,15 @@ pub(super) fn spelled<S: Seal>(bytes: &[u8]) -> Result<&[u8], Error>
     requires { 4 ≤ length bytes.now }
     ensures sealed { IfOk result (λ r. bytes.now ≡ frame S.seal_of r.now) }
     ensures broken { (stored computed : ℕ) → IsErrOf result (Error.ChecksumMismatch stored computed)
-        → (stored ≢ computed) × (stored < 2 ^ 32) × ((front : List ℕ) × (computed ≡ S.seal_of front) × (bytes.now ≡ with_number front stored)) }
+        → (stored ≢ computed) × (stored < 2 ^ 32) × ((prefix : List ℕ) × (computed ≡ S.seal_of prefix) × (bytes.now ≡ with_number prefix stored)) }
     ensures cause { OnErr result (IsMismatch result) }
 {
     let end = bytes.len() - SEAL_SIZE as usize;
-    let front = &bytes[..end];
+    let prefix = &bytes[..end];
     let stored = u32_in(&bytes[end..]);
-    let computed = S::seal(front);
+    let computed = S::seal(prefix);
     if stored != computed {
         return Err(Error::ChecksumMismatch(stored, computed));
     }
-    Ok(front)
+    Ok(prefix)
 }

@@ -129,7 +129,7 @@ impl<V: Codec, S: Seal> Glob<V, S> {
         let buffer = buffer_of(&self.manager, section)?;
         check_range(buffer, offset, size)?;
         let bytes = read_frame(self.alloc, dev, buffer, offset, size)?;
-        let front = spelled::<S>(bytes.as_slice())?;
-        Ok(V::decode_cfg(self.alloc, front, self.codec_config)?)
+        let prefix = spelled::<S>(bytes.as_slice())?;
+        Ok(V::decode_cfg(self.alloc, prefix, self.codec_config)?)
     }
 }

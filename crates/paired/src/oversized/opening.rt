@@ -161,8 +161,8 @@ fn check_values<I: Record, V: Codec, S: Seal>(
     values: &Recovery<V, S>,
 ) -> Result<(), Error>
     requires { (managed.shown values.now.manager).floor ≡ 0 }
-    ensures within { OnOk result ((s : ℕ) (v : I) → (floors.shown found.now).boundary_of s ≡ Some (Some v) → (I.location v).0 + (I.location v).1 ≤ glob.section_size (managed.shown values.now.manager) s) }
-    ensures damage { (x : _) → IsErrOf result (Error.Corruption x) → (v : I) × ((floors.shown found.now).boundary_of x.section ≡ Some (Some v)) × IsOutside (I.location v) (glob.section_size (managed.shown values.now.manager) x.section) x }
+    ensures within { OnOk result ((s : ℕ) (v : I) → (floors.preflight_shown found.now).boundary_of s ≡ Some (Some v) → (I.location v).0 + (I.location v).1 ≤ glob.section_size (managed.shown values.now.manager) s) }
+    ensures damage { (x : _) → IsErrOf result (Error.Corruption x) → (v : I) × ((floors.preflight_shown found.now).boundary_of x.section ≡ Some (Some v)) × IsOutside (I.location v) (glob.section_size (managed.shown values.now.manager) x.section) x }
     ensures cause { OnErr result ((x : _) × IsErrOf result (Error.Corruption x)) }
 {
     for (section, last) in found.boundaries() {

@@ -14,7 +14,7 @@ use Rattle.sealed_pages.specs.Leftover.{IsBlank, IsTorn, Leftover, IsCleared, On
 use Rattle.sealed_pages.specs.Slots.{slot_length}
 use Rattle.sealed_pages.specs.View.{page_at, slot_at}
 use Rattle.sealed_pages.proofs.adopted.Adopting.{pages_some}
-use Rattle.sealed_pages.proofs.Fronts.{kept_on}
+use Rattle.sealed_pages.proofs.Prefixes.{kept_on}
 use Rattle.sealed_pages.proofs.adopted.Keeping.{cut_same}
 use Rattle.sealed_pages.proofs.slots.PageCalls.{only_then, only_weaker}
 use Rattle.sealed_pages.proofs.slots.SlotLemmas.{page_next}

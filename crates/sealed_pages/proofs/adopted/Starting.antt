@@ -70,8 +70,8 @@ module _ (seal : List ℕ → ℕ) (P : ℕ) (c : List ℕ) (page a b : ℕ) (fi
 -- what the buffer has of the last page
 pub backed_of : (u : Buffer) (c : List ℕ) → u.from < u.page_size → length u.tip ≡ u.from → ((i : ℕ) → i < u.from → get_or u.tip i 0 ≡ view c (page_at u.page_size u.first + i)) → HasFlushed u c
 backed_of u c begun long tip k i lt below = elim (cases_lt (k * u.page_size + i) (u.first * u.page_size)) [
-  | inl front ↦ own_data u.page_size (u.first * u.page_size) (view c) k i lt front
-      ∙ sym (get_or_append_left (data_from u.page_size (view c) 0 (u.first * u.page_size)) u.tip 0 (k * u.page_size + i) (omega (arith, front, len)))
+  | inl prefix ↦ own_data u.page_size (u.first * u.page_size) (view c) k i lt prefix
+      ∙ sym (get_or_append_left (data_from u.page_size (view c) 0 (u.first * u.page_size)) u.tip 0 (k * u.page_size + i) (omega (arith, prefix, len)))
   | inr past ↦ in_tip past (cases_order k u.first)
 ]
   where
@@ -146,7 +146,7 @@ module _ (seal : List ℕ → ℕ) (P : ℕ) (c : List ℕ) (found : Option Last
       go None size s = adopted_none seal P c pos all first from newest behind torn begun size sealed fits same s.0 s.1 s.2 s.3
       go (Some p) size s = adopted_some seal P c pos all first from newest behind torn begun size sealed fits same p.page s
 
-  -- the bytes of the tip, which is the front of that page
+  -- the bytes of the tip, which is the prefix of that page
   pub tip_is : Finds seal P c found buf → StartsOver seal P c found first from newest behind torn → (i : ℕ) → i < from → get_or (take from buf) i 0 ≡ view c (page_at P first + i)
   tip_is finds s i lt = get_or-take from buf i 0 lt ∙ go found finds s
     where

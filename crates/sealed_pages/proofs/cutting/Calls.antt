@@ -14,7 +14,7 @@ use Rattle.sealed_pages.specs.SealedPrefix.{sealed_prefix, Prefix}
 use Rattle.sealed_pages.specs.Slots.{slot_length, page_length, best_slot, slot_bytes}
 use Rattle.sealed_pages.specs.View.{view, page_at, slot_at}
 use Rattle.sealed_pages.proofs.adopted.Adopt.{best_covers}
-use Rattle.sealed_pages.proofs.cutting.Cuts.{resized_take, take_front, below_start, cut_sound, short_sound, zeros_sound, short_covers}
+use Rattle.sealed_pages.proofs.cutting.Cuts.{resized_take, take_prefix, below_start, cut_sound, short_sound, zeros_sound, short_covers}
 use Rattle.sealed_pages.proofs.slots.PageCalls.{only_weaker, only_then}
 use Rattle.sealed_pages.proofs.Reaching.{prefix_sound, settled_sealed, rest_leaves}
 use Rattle.sealed_pages.proofs.slots.SealedBytes.{SoundTo, sealed_leaves}
@@ -112,7 +112,7 @@ prefix_less seal P bytes L M c le p = record { is = p.is; no_shorter = omega (ar
 -- a prefix of the first bytes is one of all
 pub prefix_whole : (seal : List ℕ → ℕ) (P : ℕ) (bytes : List ℕ) (n L : ℕ) (c : List ℕ) → Prefix seal P (take n bytes) L c → Prefix seal P bytes L c
 prefix_whole seal P bytes n L c p = record {
-  is = p.is ∙ take_front (length (sealed_prefix seal P c)) n bytes (omega (arith, p.no_longer, length-take n bytes));
+  is = p.is ∙ take_prefix (length (sealed_prefix seal P c)) n bytes (omega (arith, p.no_longer, length-take n bytes));
   no_shorter = p.no_shorter;
   no_longer = omega (arith, p.no_longer, length-take n bytes);
 }

@@ -24,9 +24,9 @@ pub resized_take : (c : List ℕ) (n : ℕ) → n ≤ length c → resized c n �
 resized_take c n le = ext_get_or 0 (resized c n) (take n c) (omega (arith, length-resized c n, length-take n c, le))
     (λ i lt. let inside : i < n = omega (arith, lt, length-resized c n) in resized_below c n i inside ∙ sym (get_or-take n c i 0 inside))
 
--- the front of a front
-pub take_front : (m n : ℕ) (l : List ℕ) → m ≤ n → take m (take n l) ≡ take m l
-take_front m n l le = ext_get_or 0 (take m (take n l)) (take m l) (omega (arith, length-take m (take n l), length-take n l, length-take m l, le))
+-- the prefix of a prefix
+pub take_prefix : (m n : ℕ) (l : List ℕ) → m ≤ n → take m (take n l) ≡ take m l
+take_prefix m n l le = ext_get_or 0 (take m (take n l)) (take m l) (omega (arith, length-take m (take n l), length-take n l, length-take m l, le))
     (λ i lt. let inside : i < m = omega (arith, lt, length-take m (take n l)) in get_or-take m (take n l) i 0 inside ∙ get_or-take n l i 0 (omega (arith, inside, le)) ∙ sym (get_or-take m l i 0 inside))
 
 -- a slot that matches covers bytes that are there

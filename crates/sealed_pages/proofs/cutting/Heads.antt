@@ -8,7 +8,7 @@ use Rattle.sealed_pages.specs.Entries.{IsOpenAt}
 use Rattle.sealed_pages.specs.Reading.{page_of}
 use Rattle.sealed_pages.specs.Slots.{slot_length, page_length, best_slot}
 use Rattle.sealed_pages.specs.View.{page_at}
-use Rattle.sealed_pages.proofs.cutting.Cuts.{take_front, covered_inside}
+use Rattle.sealed_pages.proofs.cutting.Cuts.{take_prefix, covered_inside}
 use Rattle.sealed_pages.proofs.looking.Looking.{content_length, page_length_is, part_slot, take_short, slot_short}
 use Rattle.sealed_pages.proofs.slots.SlotLemmas.{slot_length-le}
 use Rattle.sealed_pages.proofs.slots.Steps.{slot_low}
@@ -57,4 +57,4 @@ module _ (seal : List ℕ → ℕ) (P page : ℕ) (c : List ℕ) where
     is_best i = ltb (sym s.first i) (sym s.second i)
 
     pub head_is : keep ≤ max a b → take keep buf ≡ take keep (drop (page_at P page) c)
-    head_is le = ap (take keep) s.part ∙ take_front keep (P + 12) (drop (page_at P page) c) (omega (arith, s.first, s.second, le, slot_length-le seal P c page false, slot_length-le seal P c page true))
+    head_is le = ap (take keep) s.part ∙ take_prefix keep (P + 12) (drop (page_at P page) c) (omega (arith, s.first, s.second, le, slot_length-le seal P c page false, slot_length-le seal P c page true))

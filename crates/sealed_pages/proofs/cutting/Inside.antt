@@ -13,10 +13,10 @@ use Rattle.sealed_pages.specs.Entries.{NoReads}
 use Rattle.sealed_pages.specs.Flushing.{Alone, no_slot}
 use Rattle.sealed_pages.specs.SealedPrefix.{sealed_prefix}
 use Rattle.sealed_pages.specs.Slots.{page_length, best_slot, slot_bytes}
-use Rattle.sealed_pages.specs.Unrecovered.{SparesFront}
+use Rattle.sealed_pages.specs.Unrecovered.{SparesPrefix}
 use Rattle.sealed_pages.specs.View.{page_at, slot_at}
 use Rattle.sealed_pages.specs.lemmas.Entries.{no_reads_then}
-use Rattle.sealed_pages.proofs.Fronts.{front_page, front_then}
+use Rattle.sealed_pages.proofs.Prefixes.{prefix_page, prefix_then}
 use Rattle.sealed_pages.proofs.slots.PageCalls.{alone_then}
 use Rattle.sealed_pages.proofs.cutting.Truncating.{rose_since}
 use Rattle.sealed_pages.proofs.cutting.Calls.{sealing_less}
@@ -58,7 +58,7 @@ module _ {D : Type 0} (dev : device.Ghosts D) (seal : List ℕ → ℕ) (P : ℕ
       crashes = λ t rest own covered page_is inside. cut_leaves cut t rest (record { own = own; covered = covered; page_is = page_is; inside = inside });
       settles = λ t. tt;
       alone = cut.alone;
-      front = λ t. front_page P page (page + 1) blob (dev.time old) (dev.time mid) (omega arith) (cut.front t);
+      prefix = λ t. prefix_page P page (page + 1) blob (dev.time old) (dev.time mid) (omega arith) (cut.prefix t);
       length = tt;
       entries = cut.entries;
       faults = cut.faults;
@@ -77,8 +77,8 @@ module _ {D : Type 0} (dev : device.Ghosts D) (seal : List ℕ → ℕ) (P : ℕ
       add_alone : {r : Result ℕ DevError} → AddsSlot dev seal P blob mid last page bytes (not second) r → dev.Tells → Alone blob (dev.time old) (dev.time last)
       add_alone add t = alone_then (dev.time old) (dev.time mid) (dev.time last) blob (cut.alone t) (add.alone t)
 
-      add_front : {r : Result ℕ DevError} → AddsSlot dev seal P blob mid last page bytes (not second) r → dev.Tells → SparesFront (page_at P page) blob (dev.time old) (dev.time last)
-      add_front add t = front_then (page_at P page) blob (dev.time old) (dev.time mid) (dev.time last) (front_page P page (page + 1) blob (dev.time old) (dev.time mid) (omega arith) (cut.front t)) (add.front t)
+      add_prefix : {r : Result ℕ DevError} → AddsSlot dev seal P blob mid last page bytes (not second) r → dev.Tells → SparesPrefix (page_at P page) blob (dev.time old) (dev.time last)
+      add_prefix add t = prefix_then (page_at P page) blob (dev.time old) (dev.time mid) (dev.time last) (prefix_page P page (page + 1) blob (dev.time old) (dev.time mid) (omega arith) (cut.prefix t)) (add.prefix t)
 
       add_entries : {r : Result ℕ DevError} → AddsSlot dev seal P blob mid last page bytes (not second) r → NoReads blob (dev.opened old) (dev.opened last)
       add_entries add = no_reads_then blob (dev.opened old) (dev.opened mid) (dev.opened last) cut.entries add.entries
@@ -88,7 +88,7 @@ module _ {D : Type 0} (dev : device.Ghosts D) (seal : List ℕ → ℕ) (P : ℕ
         crashes = λ t rest own covered page_is inside. add_leaves add t rest (record { own = own; covered = covered; page_is = page_is; inside = inside });
         settles = λ t. tt;
         alone = add_alone add;
-        front = add_front add;
+        prefix = add_prefix add;
         length = tt;
         entries = add_entries add;
         faults = omega (arith, cut.faults, add.faults);
@@ -111,7 +111,7 @@ module _ {D : Type 0} (dev : device.Ghosts D) (seal : List ℕ → ℕ) (P : ℕ
           settles = λ t. subst (λ (l : List ℕ). OnOk r (disk (dev.time new) blob ≡ settled_at (written l (slot_at P page second) no_slot)))
               (both t ∙ ap (λ (l : List ℕ). written l (slot_at P page (not second)) (slot_bytes seal P bytes)) (cut.content t)) (clear.settles t);
           alone = λ t. alone_then (dev.time old) (dev.time last) (dev.time new) blob (add_alone add t) (clear.alone t);
-          front = λ t. front_then (page_at P page) blob (dev.time old) (dev.time last) (dev.time new) (add_front add t) (clear.front t);
+          prefix = λ t. prefix_then (page_at P page) blob (dev.time old) (dev.time last) (dev.time new) (add_prefix add t) (clear.prefix t);
           length = clear.length;
           entries = no_reads_then blob (dev.opened old) (dev.opened last) (dev.opened new) (add_entries add) clear.entries;
           faults = omega (arith, cut.faults, add.faults, clear.faults);

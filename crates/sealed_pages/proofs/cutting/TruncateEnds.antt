@@ -17,16 +17,16 @@ use Rattle.sealed_pages.specs.Flushing.{Alone, Data}
 use Rattle.sealed_pages.specs.Reading.{Unchanged}
 use Rattle.sealed_pages.specs.SealedPrefix.{sealed_prefix, adopted_size}
 use Rattle.sealed_pages.specs.Slots.{page_length}
-use Rattle.sealed_pages.specs.Unrecovered.{blob_of, prefix_of, SparesFront, KeepsPrefix, IsUnrecovered, IsRecovery, IsSafeCut}
+use Rattle.sealed_pages.specs.Unrecovered.{blob_of, prefix_of, SparesPrefix, KeepsPrefix, IsUnrecovered, IsRecovery, IsSafeCut}
 use Rattle.sealed_pages.specs.View.{page_at, view}
 use Rattle.sealed_pages.proofs.cutting.Calls.{sealing_less, sealing_then}
-use Rattle.sealed_pages.proofs.Fronts.{front_look, front_then, front_now}
+use Rattle.sealed_pages.proofs.Prefixes.{prefix_look, prefix_then, prefix_now}
 use Rattle.sealed_pages.proofs.memory.Holding.{holds_data, holds_own, holds_bytes, bytes_length}
 use Rattle.sealed_pages.proofs.looking.Looking.{unchanged_now}
 use Rattle.sealed_pages.proofs.slots.PageCalls.{alone_then}
 use Rattle.sealed_pages.proofs.cutting.Truncating.{all_flushed, after_sync, page_stands, cut_place, data_taken, settles_of, leaves_of, prefix_covers, rose_since}
 use Rattle.sealed_pages.specs.SlotNames.{}
-use Rattle.sealed_pages.proofs.UnrecoveredLemmas.{prefix_short, keeps_sealing, keeps_now, keeps_then, prefix_stands, cut_keeps, cut_stays, front_covers}
+use Rattle.sealed_pages.proofs.UnrecoveredLemmas.{prefix_short, keeps_sealing, keeps_now, keeps_then, prefix_stands, cut_keeps, cut_stays, spared_covers}
 use Rattle.blob_device.proofs.general.Results.{both_ok, if_ok_with, map_ok, on_err, on_ok, on_ok_two}
 
 -- the bytes that a buffer means
@@ -46,7 +46,7 @@ pub record Synced (seal : List ℕ → ℕ) (u w : Buffer) (a b : Timeline) : Ty
   pub sealed : IsSealed seal u (blob_of u a) → IsSealed seal w (blob_of u b)
   pub steady : IsUnrecovered seal u (blob_of u a) → KeepsPrefix seal u.page_size (prefix_of seal u a) (key_of u) a b
   pub unrecovered : IsUnrecovered seal u (blob_of u a) → IsUnrecovered seal w (blob_of u b)
-  pub front : SparesFront (page_at u.page_size u.first) (key_of u) a b
+  pub prefix : SparesPrefix (page_at u.page_size u.first) (key_of u) a b
   pub alone : IsBacked seal u (blob_of u a).content → Alone (key_of u) a b
   pub bytes : IsBacked seal u (blob_of u a).content → bytes_of w (blob_of u b).content ≡ meant u a
   pub backed : IsBacked seal u (blob_of u a).content → IsBacked seal w (blob_of u b).content
@@ -67,7 +67,7 @@ pub record Cut {T : Type 0} (see : T → Buffer) (seal : List ℕ → ℕ) (P le
   pub memory : IfOk r (λ v. ((see v).from ≤ page_length seal P (disk d key).content (see v).first) × ((see v).cache ≡ []))
   pub rests : OnOk r (IsAtRest (disk d key))
   pub alone : Alone key b d
-  pub front : SparesFront (page_at P j) key b d
+  pub prefix : SparesPrefix (page_at P j) key b d
   pub shorter : OnOk r (adopted_size seal P (disk d key).content ≤ len)
   pub covered : OnOk r (keep ≤ page_length seal P (disk b key).content j)
   pub refused : page_length seal P (disk b key).content j < keep → Unchanged b d
@@ -296,8 +296,8 @@ module _ {T : Type 0} {see : T → Buffer} {seal : List ℕ → ℕ} {u w : Buff
 
   pub cut_steady : IsUnrecovered seal u (blob_of u a) → length (prefix_of seal u a) < len → KeepsPrefix seal u.page_size (prefix_of seal u a) (key_of u) a d
   cut_steady un past = keeps_then seal u.page_size (prefix_of seal u a) (key_of u) a b d (s.steady un)
-      (subst (λ (p : ℕ). length (sealed_prefix seal p (blob_of u b).content) < j * p + keep → SparesFront (page_at p j) (key_of u) b d → (page_length seal p (blob_of u b).content j < keep → Unchanged b d)
-      → KeepsPrefix seal p (sealed_prefix seal p (blob_of u b).content) (key_of u) b d) s.page (cut_keeps seal w pos (key_of u) b d (s.unrecovered un) j keep) (less un past) k.front k.refused)
+      (subst (λ (p : ℕ). length (sealed_prefix seal p (blob_of u b).content) < j * p + keep → SparesPrefix (page_at p j) (key_of u) b d → (page_length seal p (blob_of u b).content j < keep → Unchanged b d)
+      → KeepsPrefix seal p (sealed_prefix seal p (blob_of u b).content) (key_of u) b d) s.page (cut_keeps seal w pos (key_of u) b d (s.unrecovered un) j keep) (less un past) k.prefix k.refused)
 
   -- what a cut says of the pages that stand as they did before the sync
   pub cut_covered : b ≡ a → OnOk r (len % u.page_size ≤ page_length seal u.page_size (blob_of u a).content (len / u.page_size))
@@ -309,7 +309,7 @@ module _ {T : Type 0} {see : T → Buffer} {seal : List ℕ → ℕ} {u w : Buff
     le,
     place.rest,
     ap (page_length seal u.page_size (blob_of u b).content) place.page,
-    front_covers seal u.page_size u.first (blob_of u a) (blob_of u b) (len / u.page_size) (front_now (page_at u.page_size u.first) (key_of u) a b s.front) below stood,
+    spared_covers seal u.page_size u.first (blob_of u a) (blob_of u b) (len / u.page_size) (prefix_now (page_at u.page_size u.first) (key_of u) a b s.prefix) below stood,
   )) k.covered
 
   -- where no byte is cut that is not sealed, the page is covered
@@ -333,8 +333,8 @@ module _ {T : Type 0} {see : T → Buffer} {seal : List ℕ → ℕ} {u w : Buff
     pub refused_short : (p : ℕ) → p ≡ j → p * u.page_size + page_length seal u.page_size (blob_of u d).content p < len
     refused_short p is = subst (λ (x : ℕ × Blob). x.0 * u.page_size + page_length seal u.page_size x.1.content x.0 < len) (λ i. (sym is i, sym still i)) (omega (arith, short, place.at))
 
-    pub refused_front : SparesFront (page_at u.page_size u.first) (key_of u) a d
-    refused_front = front_then (page_at u.page_size u.first) (key_of u) a b d s.front (front_look (page_at u.page_size u.first) (key_of u) b d (k.refused short))
+    pub refused_prefix : SparesPrefix (page_at u.page_size u.first) (key_of u) a d
+    refused_prefix = prefix_then (page_at u.page_size u.first) (key_of u) a b d s.prefix (prefix_look (page_at u.page_size u.first) (key_of u) b d (k.refused short))
 
     pub refused_data : IsBacked seal u (blob_of u a).content → Data u.page_size (meant u a) (size_of u) (view (blob_of u d).content)
     refused_data backed = subst (λ (x : Blob). Data u.page_size (meant u a) (size_of u) (view x.content)) (sym still) (own backed)
@@ -366,9 +366,9 @@ module _ {T : Type 0} {see : T → Buffer} {seal : List ℕ → ℕ} {u w : Buff
   pub cut_unrecovered : IsUnrecovered seal u (blob_of u a) → length (prefix_of seal u a) < len → IfOk r (λ v. IsUnrecovered seal (see v) (blob_of u d))
   cut_unrecovered un past = if_ok_with {Q = (keep ≤ page_length seal u.page_size (blob_of u b).content j) × IsAtRest (blob_of u d)} r (on_ok_two r (λ x y. (x, y)) k.covered k.rests)
       (both_ok r (λ v. IsCut u len j (see v)) (λ v. IsBacked seal (see v) (blob_of u d).content) x.marks (cut_is_backed un.backed))
-      (λ v both is. subst (λ (p : ℕ). length (sealed_prefix seal p (blob_of u b).content) < j * p + keep → SparesFront (page_at p j) (key_of u) b d → keep ≤ page_length seal p (blob_of u b).content j → j * p ≤ (see v).settled → (see v).page_size ≡ p
+      (λ v both is. subst (λ (p : ℕ). length (sealed_prefix seal p (blob_of u b).content) < j * p + keep → SparesPrefix (page_at p j) (key_of u) b d → keep ≤ page_length seal p (blob_of u b).content j → j * p ≤ (see v).settled → (see v).page_size ≡ p
       → IsUnrecovered seal (see v) (blob_of u d)) s.page
-      (λ lt spares covered settled same. cut_stays seal w pos (key_of u) b d (s.unrecovered un) j keep lt spares covered (see v) same is.0.first settled is.1 both.1) (less un past) k.front both.0 (omega (arith, place.at, is.0.settled)) is.0.page)
+      (λ lt spares covered settled same. cut_stays seal w pos (key_of u) b d (s.unrecovered un) j keep lt spares covered (see v) same is.0.first settled is.1 both.1) (less un past) k.prefix both.0 (omega (arith, place.at, is.0.settled)) is.0.page)
 
 -- where nothing is cut
 pub no_recovery : (seal : List ℕ → ℕ) (u : Buffer) (len : ℕ) (b : Blob) → u.from < u.page_size → size_of u ≤ len → IsRecovery seal u len b → ⊥

@@ -26,7 +26,7 @@ use Rattle.sealed_pages.specs.Slots.{slot_length, page_length, best_slot, slot_b
 use Rattle.sealed_pages.specs.View.{View, view, page_at, slot_at, StandsAt}
 use Rattle.sealed_pages.proofs.adopted.Adopt.{best_covers, best_length, sealed_covers}
 use Rattle.sealed_pages.proofs.adopted.Adopting.{end_page}
-use Rattle.sealed_pages.proofs.cutting.Cuts.{take_front, below_start, best_is, cut_prefix, cut_at_most, cut_quiet, zeros_below, zeros_quiet, zeros_covers, zeros_prefix, with_own}
+use Rattle.sealed_pages.proofs.cutting.Cuts.{take_prefix, below_start, best_is, cut_prefix, cut_at_most, cut_quiet, zeros_below, zeros_quiet, zeros_covers, zeros_prefix, with_own}
 use Rattle.sealed_pages.proofs.cutting.Calls.{sealing_less, sealing_then}
 use Rattle.sealed_pages.proofs.looking.Looking.{unchanged_now}
 use Rattle.sealed_pages.proofs.HadLemmas.{had_rest}
@@ -137,7 +137,7 @@ module _ (seal : List ℕ → ℕ) (P : ℕ) where
     pub page_cut_prefix : sealed_prefix seal P (page_cut seal P c0 j old page) ≡ take (j * P + length page) (sealed_prefix seal P c0)
     page_cut_prefix = zeros_prefix seal P (written (take (page_at P (j + 1)) c0) (slot_at P j (not old)) (slot_bytes seal P page)) j (length page) (not old) old pos some own_2 not_old last_2 inside_2
         ∙ ap (take (j * P + length page)) (prefix2 seal P pos c0 j old page fits small some short own covered page_is inside (take (page_at P (j + 1)) c0) refl (written (take (page_at P (j + 1)) c0) (slot_at P j (not old)) (slot_bytes seal P page)) refl)
-        ∙ take_front (j * P + length page) ((j + 1) * P) (sealed_prefix seal P c0) (omega (arith, short, times_next j P))
+        ∙ take_prefix (j * P + length page) ((j + 1) * P) (sealed_prefix seal P c0) (omega (arith, short, times_next j P))
 
     pub within_ready : (b : Blob) → b ≡ settled_at (page_cut seal P c0 j old page) → Ready seal P (take (j * P + length page) (sealed_prefix seal P c0)) (j * P + length page) (j * P + length page) (not old) b
     within_ready b is = subst (Ready seal P (take (j * P + length page) (sealed_prefix seal P c0)) (j * P + length page) (j * P + length page) (not old)) (sym is)

@@ -67,8 +67,8 @@ four_at c at =
     let d : at + 2 + 1 + 1 + 1 ≡ at + 5 = omega arith in
     λ t. get_or c (at + 2) 0 ∷ get_or c (a t) 0 ∷ get_or c (b t) 0 ∷ get_or c (d t) 0 ∷ []
 
-pub front_at : (P n : ℕ) (c : List ℕ) → n ≤ length c → bytes_at (view c) (page_at P 0) n ≡ take n c
-front_at P n c fits = ext_get_or 0 (bytes_at (view c) (page_at P 0) n) (take n c) (omega (arith, length-bytes_at (view c) n (page_at P 0), length-take n c, fits))
+pub prefix_at : (P n : ℕ) (c : List ℕ) → n ≤ length c → bytes_at (view c) (page_at P 0) n ≡ take n c
+prefix_at P n c fits = ext_get_or 0 (bytes_at (view c) (page_at P 0) n) (take n c) (omega (arith, length-bytes_at (view c) n (page_at P 0), length-take n c, fits))
     (λ i lt. let inside : i < n = omega (arith, lt, length-bytes_at (view c) n (page_at P 0)) in
     get_or-bytes_at (view c) n (page_at P 0) i inside ∙ (let e : page_at P 0 + i ≡ i = omega (arith, page_zero P) in ap (view c) e) ∙ sym (get_or-take n c i 0 inside))
 
@@ -120,9 +120,9 @@ module _ (seal : List ℕ → ℕ) (P : ℕ) (c : List ℕ) (k : ℕ) where
               → (computed_seal seal P (view c) (page_at P k) (slot_at P k b) (named_length (view c) (slot_at P k b)) ≡ named_seal (view c) (slot_at P k b)) ⊎ (computed_seal seal P (view c) (page_at P k) (slot_at P k b) (named_length (view c) (slot_at P k b)) ≢ named_seal (view c) (slot_at P k b))
               → slot_length seal P d 0 b ≡ slot_length seal P c k b
           by_seal two name fits yes_no =
-              let front : bytes_at (view d) (page_at P 0) (named_length (view d) (slot_at P 0 b)) ≡ bytes_at (view c) (page_at P k) (named_length (view c) (slot_at P k b))
+              let prefix : bytes_at (view d) (page_at P 0) (named_length (view d) (slot_at P 0 b)) ≡ bytes_at (view c) (page_at P k) (named_length (view c) (slot_at P k b))
               = ap (bytes_at (view d) (page_at P 0)) name ∙ moved d (named_length (view c) (slot_at P k b)) (page_at P 0) (page_at P k) (omega (arith, page_zero P)) (omega (arith, page_zero P, fits)) same in
-              let made : computed_seal seal P (view d) (page_at P 0) (slot_at P 0 b) (named_length (view d) (slot_at P 0 b)) ≡ computed_seal seal P (view c) (page_at P k) (slot_at P k b) (named_length (view c) (slot_at P k b)) = λ t. seal (two t ++ front t) in
+              let made : computed_seal seal P (view d) (page_at P 0) (slot_at P 0 b) (named_length (view d) (slot_at P 0 b)) ≡ computed_seal seal P (view c) (page_at P k) (slot_at P k b) (named_length (view c) (slot_at P k b)) = λ t. seal (two t ++ prefix t) in
               elim yes_no [
                 | inl holds ↦ slot_right seal P d 0 b in_d (omega (arith, room, page_zero P)) (omega (arith, name, fits)) (made ∙ holds ∙ sym seals) ∙ name ∙ sym (slot_right seal P c k b in_c room fits holds)
                 | inr differ ↦ slot_wrong seal P d 0 b in_d (omega (arith, room, page_zero P)) (omega (arith, name, fits)) (λ e. differ (sym made ∙ e ∙ seals)) ∙ sym (slot_wrong seal P c k b in_c room fits differ)

@@ -52,14 +52,14 @@ pub index_twice : (P k : ℕ) → k + k ≤ page_at P k
 unfolding page_at
 index_twice P k = omega arith
 
--- the front of a list that is filled piece by piece
+-- the prefix of a list that is filled piece by piece
 pub filled : (F : ℕ → ℕ) (a k : ℕ) (xs ys : List ℕ) → a ≤ length xs → ((i : ℕ) → i < a → get_or xs i 0 ≡ F i) → ((j : ℕ) → j < length ys → get_or ys j 0 ≡ F (a + j))
     → (i : ℕ) → i < a + length ys → get_or (put_mid a k xs ys) i 0 ≡ F i
-filled F a k xs ys fits front back i lt =
+filled F a k xs ys fits prefix back i lt =
     let whole : take (a + length ys) (put_mid a k xs ys) ≡ take a xs ++ ys = take-put_mid a k xs ys (a + length ys) refl fits in
     let len : length (take a xs) ≡ a = omega (arith, length-take a xs, fits) in
     sym (get_or-take (a + length ys) (put_mid a k xs ys) i 0 lt) ∙ ap (λ (l : List ℕ). get_or l i 0) whole ∙ elim (cases_lt i a) [
-      | inl less ↦ get_or_append_left (take a xs) ys 0 i (omega (arith, less, len)) ∙ get_or-take a xs i 0 less ∙ front i less
+      | inl less ↦ get_or_append_left (take a xs) ys 0 i (omega (arith, less, len)) ∙ get_or-take a xs i 0 less ∙ prefix i less
       | inr le ↦ get_or-append_right (take a xs) ys a i 0 len le ∙ back (i - a) (omega (arith, lt, le)) ∙ (let e : a + (i - a) ≡ i = omega (arith, le) in ap F e)
     ]
 
@@ -86,7 +86,7 @@ module _ (P m n k skip at part : ℕ) (begun : skip < P) (place_is : k * P + ski
 -- the bytes of the pages, and behind them those of the tip
 pub read_whole : (P first m n b : ℕ) (v : View) (tip out held : List ℕ) → b ≡ below P first m n → m + n ≤ first * P + length tip → length out ≡ b → ((i : ℕ) → i < b → get_or out i 0 ≡ v (place P (m + i)))
     → held ≡ take (n - b) (drop (m + b - first * P) tip) → out ++ held ≡ take n (drop m (data_from P v 0 (first * P) ++ tip))
-read_whole P first m n b v tip out held is fits wide front back = ext_get_or 0 (out ++ held) (take n (drop m all)) (omega (arith, len_left, len_right)) each
+read_whole P first m n b v tip out held is fits wide prefix back = ext_get_or 0 (out ++ held) (take n (drop m all)) (omega (arith, len_left, len_right)) each
   where
     all : List ℕ
     all = data_from P v 0 (first * P) ++ tip
@@ -108,7 +108,7 @@ read_whole P first m n b v tip out held is fits wide front back = ext_get_or 0 (
 
     each : (i : ℕ) → i < length (out ++ held) → get_or (out ++ held) i 0 ≡ get_or (take n (drop m (data_from P v 0 (first * P) ++ tip))) i 0
     each i lt = elim (cases_lt i b) [
-      | inl low ↦ get_or_append_left out held 0 i (omega (arith, low, wide)) ∙ front i low
+      | inl low ↦ get_or_append_left out held 0 i (omega (arith, low, wide)) ∙ prefix i low
           ∙ sym (in_all i (omega (arith, lt, len_left)) ∙ get_or_append_left (data_from P v 0 (first * P)) tip 0 (m + i) (omega (arith, low, is, begin_is)) ∙ get_or-data_from P v (first * P) 0 (m + i) (omega (arith, low, is)) ∙ (let e : 0 + (m + i) ≡ m + i = omega arith in ap (λ (x : ℕ). v (place P x)) e))
       | inr high ↦ (let inside : i < n = omega (arith, lt, len_left) in
           let past : first * P ≤ m + i = omega (arith, high, is, inside) in
@@ -129,8 +129,8 @@ put_tail b xs ys fits long =
     = omega (arith, length-append (take b xs) (ys ++ drop (length xs - b) (drop b xs)), length-append ys (drop (length xs - b) (drop b xs)), length-take b xs, length-drop (length xs - b) (drop b xs), length-drop b xs, fits, long) in
     sym (take_all (b + length ys) (put_mid b (length xs - b) xs ys) (omega (arith, whole))) ∙ take-put_mid b (length xs - b) xs ys (b + length ys) refl fits
 
-pub front_of : (n : ℕ) (xs ys : List ℕ) → length xs ≡ n → take n (xs ++ ys) ≡ xs
-front_of n xs ys long = let le : n ≤ length xs = omega (arith, long) in take-append-le n xs ys le ∙ take_all n xs (omega (arith, long))
+pub prefix_of : (n : ℕ) (xs ys : List ℕ) → length xs ≡ n → take n (xs ++ ys) ≡ xs
+prefix_of n xs ys long = let le : n ≤ length xs = omega (arith, long) in take-append-le n xs ys le ∙ take_all n xs (omega (arith, long))
 
 -- what stands in a page is no further than the page's place
 pub data_fits : (P k : ℕ) → P < 65536 → page_at P k < 2 ^ 64 → k * P + P < 2 ^ 64

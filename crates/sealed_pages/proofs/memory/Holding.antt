@@ -40,7 +40,7 @@ extent_more P n pos =
 pub fit_size : (P first from : ℕ) (tip : List ℕ) → Fit P first from tip → first * P + length tip < 2 ^ 64
 fit_size P first from tip fit = omega (arith, fit.room, extent_more P (first * P + length tip) (omega (arith, fit.begun)))
 
--- full pages at the front of the tip are let go
+-- full pages at the start of the tip are let go
 pub state_clean : (seal : List ℕ → ℕ) (P : ℕ) (all : List ℕ) (first from L : ℕ) (newest : Bool) (b : Blob) → Ready seal P all (first * P + from) L newest b → State seal P all first from L newest false false b
 state_clean seal P all first from L newest b ready = record { ready = λ e. ready; adopted = λ e. absurd (cc e) }
 
@@ -124,21 +124,21 @@ holds_data seal u all b holds = elim (cases_Bool (u.behind || u.torn)) [
 pub bytes_is : (u : Buffer) (all content : List ℕ) → 0 < u.page_size → Data u.page_size all (u.first * u.page_size) (view content) → StandsAt all (u.first * u.page_size) u.tip → length all ≡ size_of u → bytes_of u content ≡ all
 bytes_is u all content pos same at size = ext_get_or 0 (bytes_of u content) all (omega (arith, long, size)) place_is
   where
-    front : List ℕ
-    front = data_from u.page_size (view content) 0 (u.first * u.page_size)
+    prefix : List ℕ
+    prefix = data_from u.page_size (view content) 0 (u.first * u.page_size)
 
-    len_front : length (data_from u.page_size (view content) 0 (u.first * u.page_size)) ≡ u.first * u.page_size
-    len_front = length-data_from u.page_size (view content) (u.first * u.page_size) 0
+    len_prefix : length (data_from u.page_size (view content) 0 (u.first * u.page_size)) ≡ u.first * u.page_size
+    len_prefix = length-data_from u.page_size (view content) (u.first * u.page_size) 0
 
     long : length (bytes_of u content) ≡ size_of u
-    long = omega (arith, length-append (data_from u.page_size (view content) 0 (u.first * u.page_size)) u.tip, len_front)
+    long = omega (arith, length-append (data_from u.page_size (view content) 0 (u.first * u.page_size)) u.tip, len_prefix)
 
-    in_front : (i : ℕ) → i < u.first * u.page_size → get_or (bytes_of u content) i 0 ≡ get_or all i 0
-    in_front i lt =
+    in_prefix : (i : ℕ) → i < u.first * u.page_size → get_or (bytes_of u content) i 0 ≡ get_or all i 0
+    in_prefix i lt =
         let d = div_place u.page_size i pos in
         let is : i / u.page_size * u.page_size + (i - i / u.page_size * u.page_size) ≡ i = omega (arith, d.0) in
         let near : i - i / u.page_size * u.page_size < u.page_size = omega (arith, d.0, d.1) in
-        get_or_append_left (data_from u.page_size (view content) 0 (u.first * u.page_size)) u.tip 0 i (omega (arith, lt, len_front))
+        get_or_append_left (data_from u.page_size (view content) 0 (u.first * u.page_size)) u.tip 0 i (omega (arith, lt, len_prefix))
         ∙ get_or-data_from u.page_size (view content) (u.first * u.page_size) 0 i lt
         ∙ (let e : 0 + i ≡ i / u.page_size * u.page_size + (i - i / u.page_size * u.page_size) = omega (arith, is) in ap (λ (x : ℕ). view content (place u.page_size x)) e)
         ∙ ap (view content) (place_in u.page_size (i / u.page_size) (i - i / u.page_size * u.page_size) near)
@@ -146,13 +146,13 @@ bytes_is u all content pos same at size = ext_get_or 0 (bytes_of u content) all 
         ∙ ap (λ (x : ℕ). get_or all x 0) is
 
     in_tip : (i : ℕ) → u.first * u.page_size ≤ i → i < length (bytes_of u content) → get_or (bytes_of u content) i 0 ≡ get_or all i 0
-    in_tip i past lt = get_or-append_right (data_from u.page_size (view content) 0 (u.first * u.page_size)) u.tip (u.first * u.page_size) i 0 len_front past
+    in_tip i past lt = get_or-append_right (data_from u.page_size (view content) 0 (u.first * u.page_size)) u.tip (u.first * u.page_size) i 0 len_prefix past
         ∙ at.same (i - u.first * u.page_size) (omega (arith, past, lt, long))
         ∙ (let e : u.first * u.page_size + (i - u.first * u.page_size) ≡ i = omega (arith, past) in ap (λ (x : ℕ). get_or all x 0) e)
 
     place_is : (i : ℕ) → i < length (bytes_of u content) → get_or (bytes_of u content) i 0 ≡ get_or all i 0
     place_is i lt = elim (cases_lt i (u.first * u.page_size)) [
-      | inl below ↦ in_front i below
+      | inl below ↦ in_prefix i below
       | inr past ↦ in_tip i past lt
     ]
 
@@ -168,13 +168,13 @@ holds_own seal u all b pos holds = subst (λ (l : List ℕ). Holds seal u l b) (
 -- the same by the weaker premise
 pub tip_stands : (u : Buffer) (content : List ℕ) → StandsAt (bytes_of u content) (u.first * u.page_size) u.tip
 tip_stands u content = record {
-  room = omega (arith, length-append (data_from u.page_size (view content) 0 (u.first * u.page_size)) u.tip, len_front);
-  same = λ i lt. sym (get_or-append_right (data_from u.page_size (view content) 0 (u.first * u.page_size)) u.tip (u.first * u.page_size) (u.first * u.page_size + i) 0 len_front (omega arith)
+  room = omega (arith, length-append (data_from u.page_size (view content) 0 (u.first * u.page_size)) u.tip, len_prefix);
+  same = λ i lt. sym (get_or-append_right (data_from u.page_size (view content) 0 (u.first * u.page_size)) u.tip (u.first * u.page_size) (u.first * u.page_size + i) 0 len_prefix (omega arith)
       ∙ (let e : u.first * u.page_size + i - u.first * u.page_size ≡ i = omega arith in ap (λ (x : ℕ). get_or u.tip x 0) e));
 }
   where
-    len_front : length (data_from u.page_size (view content) 0 (u.first * u.page_size)) ≡ u.first * u.page_size
-    len_front = length-data_from u.page_size (view content) (u.first * u.page_size) 0
+    len_prefix : length (data_from u.page_size (view content) 0 (u.first * u.page_size)) ≡ u.first * u.page_size
+    len_prefix = length-data_from u.page_size (view content) (u.first * u.page_size) 0
 
 pub bytes_length : (u : Buffer) (content : List ℕ) → length (bytes_of u content) ≡ size_of u
 bytes_length u content = omega (arith, length-append (data_from u.page_size (view content) 0 (u.first * u.page_size)) u.tip, length-data_from u.page_size (view content) (u.first * u.page_size) 0)

@@ -7,7 +7,7 @@ use Rattle.sealed_pages.specs.Buffer.{Buffer, size_of, flushed_of, bytes_of, Flu
 use Rattle.sealed_pages.specs.Cached.{full_pages, AreFull, AreWhole, IsCachedOf, AreCachedOf}
 use Rattle.sealed_pages.specs.Flushing.{Data, CoversFrom}
 use Rattle.sealed_pages.specs.Slots.{page_length}
-use Rattle.sealed_pages.specs.Unrecovered.{FrontOf}
+use Rattle.sealed_pages.specs.Unrecovered.{SparedPrefix}
 use Rattle.sealed_pages.specs.View.{view, page_at, StandsAt}
 use Rattle.sealed_pages.proofs.slots.CoverLemmas.{cached_spared, cached_put}
 use Rattle.std.proofs.Math.Nat.{mod-eq-sub-div-mul}
@@ -18,7 +18,7 @@ use Rattle.sealed_pages.proofs.Syncing.{flushed_backed}
 
 -- the buffer v that a flush of w leaves, where w is u but for what the flush removed before
 pub memory_flushed : (seal : List ℕ → ℕ) (u w v : Buffer) (a b : Blob) (all : List ℕ) → w.page_size ≡ u.page_size → w.first ≡ u.first → w.tip ≡ u.tip → w.cache ≡ u.cache → v.from < v.page_size → FlushesInto w v
-    → FrontOf (page_at u.page_size u.first) a b → AreFull u.page_size u.first u.cache → Data u.page_size all (size_of u) (view b.content) → length all ≡ size_of u → StandsAt all (u.first * u.page_size) u.tip
+    → SparedPrefix (page_at u.page_size u.first) a b → AreFull u.page_size u.first u.cache → Data u.page_size all (size_of u) (view b.content) → length all ≡ size_of u → StandsAt all (u.first * u.page_size) u.tip
     → CoversFrom seal u.page_size b.content u.first (size_of u) → AreCachedOf seal u.page_size a.content u.cache → IsBacked seal v b.content
 memory_flushed seal u w v a b all page first tip cache begun into has full same long at covers cached = record {
   flushed = flushed_backed v u.page_size (size_of u) all b.content (omega (arith, begun)) size_is size same ends long (omega (arith, from));

@@ -13,7 +13,7 @@ use Rattle.blob_device.specs.declared.error.DevError.{DevError}
 use Rattle.sealed_pages.specs.Cached.{full_pages, AreFull, IsCachedOf, AreCachedOf}
 use Rattle.sealed_pages.specs.Flushing.{Data, CoversFrom}
 use Rattle.sealed_pages.specs.Slots.{slot_length, page_length, slot_bytes}
-use Rattle.sealed_pages.specs.Unrecovered.{FrontOf}
+use Rattle.sealed_pages.specs.Unrecovered.{SparedPrefix}
 use Rattle.sealed_pages.specs.View.{view, page_at, slot_at, StandsAt}
 use Rattle.sealed_pages.proofs.looking.Looking.{page_length_is}
 use Rattle.sealed_pages.proofs.slots.PageCalls.{page_wrote}
@@ -55,7 +55,7 @@ page_covers seal P bytes key t0 k f page b fits small room {v = v} {u = u} {t1 =
     by_slot true is = omega (arith, is, page_length_is seal P (disk t2 key).content k)
 
 -- a page below the end of what is spared is covered as far as before
-module _ (seal : List ℕ → ℕ) (P first : ℕ) (a b : Blob) (has : FrontOf (page_at P first) a b) (k : ℕ) (less : k < first) where
+module _ (seal : List ℕ → ℕ) (P first : ℕ) (a b : Blob) (has : SparedPrefix (page_at P first) a b) (k : ℕ) (less : k < first) where
   near : page_at P (k + 1) ≤ page_at P first
   near = page_order (λ x. 0) P (k + 1) first (omega (arith, less))
 
@@ -79,7 +79,7 @@ module _ (seal : List ℕ → ℕ) (P first : ℕ) (a b : Blob) (has : FrontOf (
   data_spared i lt = has.reads (page_at P k + i) (omega (arith, lt, near, page_next P k))
 
 -- the next page of a flush
-pub covers_next : (seal : List ℕ → ℕ) (P first page at n : ℕ) (a b : Blob) → CoversFrom seal P a.content first (first * P + at) → page * P ≡ first * P + at → 1 ≤ P → n ≤ P → FrontOf (page_at P page) a b
+pub covers_next : (seal : List ℕ → ℕ) (P first page at n : ℕ) (a b : Blob) → CoversFrom seal P a.content first (first * P + at) → page * P ≡ first * P + at → 1 ≤ P → n ≤ P → SparedPrefix (page_at P page) a b
     → n ≤ page_length seal P b.content page → CoversFrom seal P b.content first (first * P + (at + n))
 covers_next seal P first page at n a b covers place pos size has part k low lt = elim (cases_lt k page) [
   | inl less ↦ (let below = times_more k page P less in
@@ -92,7 +92,7 @@ covers_next seal P first page at n a b covers place pos size has part k low lt =
 ]
 
 -- pages in memory below the end of what is spared are as in the blob
-pub cached_spared : (seal : List ℕ → ℕ) (P first : ℕ) (a b : Blob) (pages : List (ℕ × List ℕ)) → FrontOf (page_at P first) a b → AreFull P first pages → AreCachedOf seal P a.content pages → AreCachedOf seal P b.content pages
+pub cached_spared : (seal : List ℕ → ℕ) (P first : ℕ) (a b : Blob) (pages : List (ℕ × List ℕ)) → SparedPrefix (page_at P first) a b → AreFull P first pages → AreCachedOf seal P a.content pages → AreCachedOf seal P b.content pages
 cached_spared seal P first a b pages has full were k d lt =
     let e = full k d lt in
     let was = were k d lt in

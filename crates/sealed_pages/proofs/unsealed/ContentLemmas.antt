@@ -115,8 +115,8 @@ adds_put u p bytes whole t0 t1 t2 key is adds more =
 -- The steps of a cut to n bytes: w is the buffer with the run's part below n, v the one after its flush, s the one after the cut.
 module _ (u w : WriteBuffer) (n : ℕ) (shorter : w ≡ short_run u n) (less : n < size_of u) (t0 : Timeline) (long0 : length (disk t0 (blob_key u)).content ≡ u.end) where
   -- the cut bytes
-  abbrev front : List ℕ
-  front = take n (bytes_of u (disk t0 (blob_key u)).content)
+  abbrev prefix : List ℕ
+  prefix = take n (bytes_of u (disk t0 (blob_key u)).content)
 
   -- what the flush makes
   abbrev flushed : List ℕ
@@ -125,8 +125,8 @@ module _ (u w : WriteBuffer) (n : ℕ) (shorter : w ≡ short_run u n) (less : n
   flush_adds : (t1 : Timeline) → AddsOnly (bytes_of w (disk t0 (blob_key w)).content ∷ []) (blob_key w) t0 t1 → AddsOnly (bytes_of (short_run u n) (disk t0 (blob_key u)).content ∷ []) (blob_key u) t0 t1
   flush_adds t1 adds = subst (λ (x : WriteBuffer). AddsOnly (bytes_of x (disk t0 (blob_key x)).content ∷ []) (blob_key x) t0 t1) shorter adds
 
-  pub cut_adds : (t1 : Timeline) → AddsOnly (bytes_of w (disk t0 (blob_key w)).content ∷ []) (blob_key w) t0 t1 → AddsOnly (flushed ∷ front ∷ []) (blob_key u) t0 t1
-  cut_adds t1 adds = adds_one (flushed ∷ front ∷ []) flushed (blob_key u) t0 t1 (0, omega arith, refl) (flush_adds t1 adds)
+  pub cut_adds : (t1 : Timeline) → AddsOnly (bytes_of w (disk t0 (blob_key w)).content ∷ []) (blob_key w) t0 t1 → AddsOnly (flushed ∷ prefix ∷ []) (blob_key u) t0 t1
+  cut_adds t1 adds = adds_one (flushed ∷ prefix ∷ []) flushed (blob_key u) t0 t1 (0, omega arith, refl) (flush_adds t1 adds)
 
   module _ (few : (u.end ≤ u.at) ⊎ ((n ≤ u.at) ⊎ (length u.pending ≡ 0))) where
     none_left : n < u.end → length (take (n - min u.at n) u.pending) ≡ 0
@@ -141,31 +141,31 @@ module _ (u w : WriteBuffer) (n : ℕ) (shorter : w ≡ short_run u n) (less : n
         (ap (λ (b : Bool). b && leb (min u.at n) u.end) (eq-eqb (length (take (n - min u.at n) u.pending)) 0 (none_left short)) ∙ le-leb (min u.at n) u.end (omega (arith, short)))
 
     -- without a flush, or with one that ends at n
-    flushed_front : u.end ≤ n → bytes_of (short_run u n) (disk t0 (blob_key u)).content ≡ take n (bytes_of u (disk t0 (blob_key u)).content)
-    flushed_front within = sym (take_all n flushed (omega (arith, within, long0, length-written (disk t0 (blob_key u)).content (min u.at n) (take (n - min u.at n) u.pending), length-take (n - min u.at n) u.pending)))
+    flushed_prefix : u.end ≤ n → bytes_of (short_run u n) (disk t0 (blob_key u)).content ≡ take n (bytes_of u (disk t0 (blob_key u)).content)
+    flushed_prefix within = sym (take_all n flushed (omega (arith, within, long0, length-written (disk t0 (blob_key u)).content (min u.at n) (take (n - min u.at n) u.pending), length-take (n - min u.at n) u.pending)))
         ∙ written_cut (disk t0 (blob_key u)).content u.at u.pending n (omega (arith, less, long0))
 
-    pub cut_adds_front : (t1 : Timeline) → (is_idle w ≡ true → t1 ≡ t0) → AddsOnly (bytes_of w (disk t0 (blob_key w)).content ∷ []) (blob_key w) t0 t1 → AddsOnly (front ∷ []) (blob_key u) t0 t1
-    cut_adds_front t1 untouched adds = elim (cases_lt n u.end) [
-      | inl short ↦ subst (λ (t : Timeline). AddsOnly (front ∷ []) (blob_key u) t0 t) (sym (untouched (no_flush short))) (adds_start (front ∷ []) (blob_key u) t0)
-      | inr within ↦ adds_one (front ∷ []) flushed (blob_key u) t0 t1 (0, omega arith, sym (flushed_front within)) (flush_adds t1 adds)
+    pub cut_adds_prefix : (t1 : Timeline) → (is_idle w ≡ true → t1 ≡ t0) → AddsOnly (bytes_of w (disk t0 (blob_key w)).content ∷ []) (blob_key w) t0 t1 → AddsOnly (prefix ∷ []) (blob_key u) t0 t1
+    cut_adds_prefix t1 untouched adds = elim (cases_lt n u.end) [
+      | inl short ↦ subst (λ (t : Timeline). AddsOnly (prefix ∷ []) (blob_key u) t0 t) (sym (untouched (no_flush short))) (adds_start (prefix ∷ []) (blob_key u) t0)
+      | inr within ↦ adds_one (prefix ∷ []) flushed (blob_key u) t0 t1 (0, omega arith, sym (flushed_prefix within)) (flush_adds t1 adds)
     ]
 
   module _ (v : WriteBuffer) (key : blob_key v ≡ blob_key u) (idle : is_idle v ≡ true) (t1 : Timeline) (long1 : length (disk t1 (blob_key v)).content ≡ v.end)
       (bytes : bytes_of v (disk t1 (blob_key w)).content ≡ bytes_of w (disk t0 (blob_key w)).content) where
-    front_is : take n (disk t1 (blob_key u)).content ≡ take n (bytes_of u (disk t0 (blob_key u)).content)
-    front_is = ap (take n) (sym (idle_bytes v (disk t1 (blob_key u)).content idle (subst (λ (k : Key). length (disk t1 k).content ≡ v.end) key long1))
+    prefix_is : take n (disk t1 (blob_key u)).content ≡ take n (bytes_of u (disk t0 (blob_key u)).content)
+    prefix_is = ap (take n) (sym (idle_bytes v (disk t1 (blob_key u)).content idle (subst (λ (k : Key). length (disk t1 k).content ≡ v.end) key long1))
         ∙ subst (λ (x : WriteBuffer). bytes_of v (disk t1 (blob_key x)).content ≡ bytes_of x (disk t0 (blob_key x)).content) shorter bytes)
         ∙ written_cut (disk t0 (blob_key u)).content u.at u.pending n (omega (arith, less, long0))
 
-    module _ (made : List (List ℕ)) (among : Contains made front) (t2 : Timeline) where
+    module _ (made : List (List ℕ)) (among : Contains made prefix) (t2 : Timeline) where
       pub resize_adds : AddsOnly made (blob_key u) t0 t1 → AddsOnly (take n (disk t1 (blob_key v)).content ∷ []) (blob_key v) t1 t2 → AddsOnly made (blob_key u) t0 t2
-      resize_adds adds cut = adds_on made front (blob_key u) t0 t1 t2 among adds
-          (subst (λ (l : List ℕ). AddsOnly (l ∷ []) (blob_key u) t1 t2) front_is (subst (λ (k : Key). AddsOnly (take n (disk t1 k).content ∷ []) k t1 t2) key cut))
+      resize_adds adds cut = adds_on made prefix (blob_key u) t0 t1 t2 among adds
+          (subst (λ (l : List ℕ). AddsOnly (l ∷ []) (blob_key u) t1 t2) prefix_is (subst (λ (k : Key). AddsOnly (take n (disk t1 k).content ∷ []) k t1 t2) key cut))
 
       pub settle_adds : (s : WriteBuffer) (t3 : Timeline) → blob_key s ≡ blob_key u → (disk t2 (blob_key v)).content ≡ take n (disk t1 (blob_key v)).content
           → AddsOnly made (blob_key u) t0 t2 → AddsOnly ((disk t2 (blob_key s)).content ∷ []) (blob_key s) t2 t3 → AddsOnly made (blob_key u) t0 t3
       settle_adds s t3 key_s content adds rests =
-          let is : (disk t2 (blob_key u)).content ≡ front = subst (λ (k : Key). (disk t2 k).content ≡ take n (disk t1 k).content) key content ∙ front_is in
-          adds_on made front (blob_key u) t0 t2 t3 among adds
+          let is : (disk t2 (blob_key u)).content ≡ prefix = subst (λ (k : Key). (disk t2 k).content ≡ take n (disk t1 k).content) key content ∙ prefix_is in
+          adds_on made prefix (blob_key u) t0 t2 t3 among adds
           (subst (λ (l : List ℕ). AddsOnly (l ∷ []) (blob_key u) t2 t3) is (subst (λ (k : Key). AddsOnly ((disk t2 k).content ∷ []) k t2 t3) key_s rests))

@@ -14,7 +14,7 @@ use Rattle.sealed_pages.specs.Entries.{IsOpenAt, NoReads}
 use Rattle.sealed_pages.specs.Sparing.{Sparing, LooseOnly, Keeping}
 use Rattle.sealed_pages.specs.unsealed.RunCalls.{FlushesRun, Rests, Shortens, Truncates}
 use Rattle.sealed_pages.specs.unsealed.Writing.{WriteBuffer, blob_key, bytes_of, size_of, run_of, short_run, KeepsSettled}
-use Rattle.sealed_pages.proofs.unsealed.ContentLemmas.{adds_start, adds_resize, cut_adds, cut_adds_front, resize_adds, settle_adds}
+use Rattle.sealed_pages.proofs.unsealed.ContentLemmas.{adds_start, adds_resize, cut_adds, cut_adds_prefix, resize_adds, settle_adds}
 use Rattle.sealed_pages.proofs.unsealed.LastingLemmas.{keeping_of}
 use Rattle.sealed_pages.proofs.looking.Looking.{content_length}
 use Rattle.sealed_pages.proofs.unsealed.SparingLemmas.{sparing_start, sparing_then, sparing_weaker, sparing_resize, loose_resize, loose_start, loose_spared, loose_then}
@@ -121,7 +121,7 @@ module _ {D : Type 0} (dev : device.Ghosts D) (tells : dev.Tells) (stands : (d :
     spares = cut_first u n w (dev.time d0) (dev.time d1) shorter (flushed.spares tells);
     loose = loose_first u n w (dev.time d0) (dev.time d1) shorter (flushed.spares tells);
     since = cut_adds u w n shorter less (dev.time d0) long0 (dev.time d1) (flushed.since tells);
-    since_cut = λ few. cut_adds_front u w n shorter less (dev.time d0) long0 few (dev.time d1) (λ idle. ap dev.time (flushed.untouched idle)) (flushed.since tells);
+    since_cut = λ few. cut_adds_prefix u w n shorter less (dev.time d0) long0 few (dev.time d1) (λ idle. ap dev.time (flushed.untouched idle)) (flushed.since tells);
   }
 
   -- v is the one after the flush

@@ -26,23 +26,23 @@ pub outside_none : (r : WriteBuffer) → r.pending ≡ [] → (i : ℕ) → Outs
 outside_none r none i = (subst (λ (l : List ℕ). (i < r.at) ⊎ (r.at + length l ≤ i)) (sym none) (nowhere r.at i), tt)
 
 module _ (u : WriteBuffer) (b : Blob) (kept : KeepsSettled u b) (m : ℕ) (few : m ≤ u.settled) where
-  front : List ℕ
-  front = take m (bytes_of u b.content)
+  prefix : List ℕ
+  prefix = take m (bytes_of u b.content)
 
   all_long : u.settled ≤ length (bytes_of u b.content)
   all_long = omega (arith, kept.long, length-written b.content u.at u.pending)
 
-  front_long : length (take m (bytes_of u b.content)) ≡ m
-  front_long = omega (arith, length-take m (bytes_of u b.content), all_long, few)
+  prefix_long : length (take m (bytes_of u b.content)) ≡ m
+  prefix_long = omega (arith, length-take m (bytes_of u b.content), all_long, few)
 
   within : (i : ℕ) → i < m → i < length (take u.settled (bytes_of u b.content))
   within i lt = omega (arith, lt, few, all_long, length-take u.settled (bytes_of u b.content))
 
-  front_byte : (i : ℕ) → i < m → get_or b.content i 0 ≡ get_or (take m (bytes_of u b.content)) i 0
-  front_byte i lt = kept.keeps.same i (within i lt) ∙ get_or-take u.settled (bytes_of u b.content) i 0 (omega (arith, lt, few)) ∙ sym (get_or-take m (bytes_of u b.content) i 0 lt)
+  prefix_byte : (i : ℕ) → i < m → get_or b.content i 0 ≡ get_or (take m (bytes_of u b.content)) i 0
+  prefix_byte i lt = kept.keeps.same i (within i lt) ∙ get_or-take u.settled (bytes_of u b.content) i 0 (omega (arith, lt, few)) ∙ sym (get_or-take m (bytes_of u b.content) i 0 lt)
 
-  front_lasts : Lasts m b
-  front_lasts = record {
+  prefix_lasts : Lasts m b
+  prefix_lasts = record {
     there = kept.keeps.there;
     sure = kept.keeps.sure;
     short = below_all m (shortest b) (λ i lt. kept.keeps.short i (within i lt));
@@ -51,13 +51,13 @@ module _ (u : WriteBuffer) (b : Blob) (kept : KeepsSettled u b) (m : ℕ) (few :
 
   -- as long as these places are spared
   spared : (R : ℕ → Type 0) (n : ℕ) (c : Blob) → m ≤ n → ((i : ℕ) → i < m → R i) → Spares R n b c → Keeps (take m (bytes_of u b.content)) c
-  spared R n c le each spares = let last = spares.lasts m le front_lasts in record {
+  spared R n c le each spares = let last = spares.lasts m le prefix_lasts in record {
     there = last.there;
     sure = last.sure;
-    short = λ i lt. omega (arith, lt, last.short, front_long);
-    long = λ i lt. omega (arith, lt, last.long, front_long);
-    outside = λ i lt. let inside : i < m = omega (arith, lt, front_long) in spares.loose i (each i inside) (kept.keeps.outside i (within i inside));
-    same = λ i lt. let inside : i < m = omega (arith, lt, front_long) in spares.same i (each i inside) ∙ front_byte i inside;
+    short = λ i lt. omega (arith, lt, last.short, prefix_long);
+    long = λ i lt. omega (arith, lt, last.long, prefix_long);
+    outside = λ i lt. let inside : i < m = omega (arith, lt, prefix_long) in spares.loose i (each i inside) (kept.keeps.outside i (within i inside));
+    same = λ i lt. let inside : i < m = omega (arith, lt, prefix_long) in spares.same i (each i inside) ∙ prefix_byte i inside;
   }
 
 pub keeping_of : (u : WriteBuffer) (R : ℕ → Type 0) (n m : ℕ) (k : Key) (t0 t1 : Timeline) → KeepsSettled u (disk t0 k) → m ≤ u.settled → m ≤ n → ((i : ℕ) → i < m → R i) → Sparing R n k t0 t1 → Keeping (take m (bytes_of u (disk t0 k).content)) k t0 t1

@@ -34,7 +34,7 @@ pub written_in_two : (run bytes : List ℕ) (at over : ℕ) → at ≤ length ru
 written_in_two run bytes at over within is = ext_get_or 0 (written run at (take over bytes) ++ drop over bytes) (written run at bytes)
     (omega (arith, length-append (written run at (take over bytes)) (drop over bytes), long, length-drop over bytes, length-written run at bytes, within, is))
     (λ i lt. elim (cases_lt i (length run)) [
-      | inl inside ↦ get_or_append_left (written run at (take over bytes)) (drop over bytes) 0 i (omega (arith, inside, long)) ∙ front i inside
+      | inl inside ↦ get_or_append_left (written run at (take over bytes)) (drop over bytes) 0 i (omega (arith, inside, long)) ∙ prefix i inside
       | inr behind ↦ get_or-append_right (written run at (take over bytes)) (drop over bytes) (length run) i 0 long behind
           ∙ get_or-drop over bytes (i - length run) 0
           ∙ (let e : over + (i - length run) ≡ i - at = omega (arith, is, behind, within, lt, total) in ap (λ (j : ℕ). get_or bytes j 0) e)
@@ -50,8 +50,8 @@ written_in_two run bytes at over within is = ext_get_or 0 (written run at (take 
     total : length (written run at (take over bytes) ++ drop over bytes) ≡ length run + (length bytes - over)
     total = omega (arith, length-append (written run at (take over bytes)) (drop over bytes), long, length-drop over bytes)
 
-    front : (i : ℕ) → i < length run → get_or (written run at (take over bytes)) i 0 ≡ get_or (written run at bytes) i 0
-    front i inside = elim (cases_lt i at) [
+    prefix : (i : ℕ) → i < length run → get_or (written run at (take over bytes)) i 0 ≡ get_or (written run at bytes) i 0
+    prefix i inside = elim (cases_lt i at) [
       | inl before ↦ written_out run at (take over bytes) i (inl before) ∙ sym (written_out run at bytes i (inl before))
       | inr from ↦ elim (cases_lt i (at + over)) [
         | inl among ↦ written_inside run at (take over bytes) i from (omega (arith, among, short)) ∙ get_or-take over bytes (i - at) 0 (omega (arith, among, from))
@@ -107,10 +107,10 @@ refilled n ys xs long same = ap (λ (l : List ℕ). take n (ys ++ l)) (drop_all 
 
 pub overwritten : (items lent ys old rest bytes : List ℕ) (at over n : ℕ) → lent ≡ items → n ≡ length items → at ≤ length items → over ≡ min (length bytes) (length items - at) → ys ≡ old → old ≡ take over bytes → rest ≡ drop over bytes
     → take n (put_mid at (at + over - at) lent ys ++ drop (length (put_mid at (at + over - at) lent ys)) items) ++ rest ≡ written items at bytes
-overwritten items lent ys old rest bytes at over n value len within is after front back =
+overwritten items lent ys old rest bytes at over n value len within is after prefix back =
     let short : length (take over bytes) ≡ at + over - at = omega (arith, length-take over bytes, is) in
     let mid : put_mid at (at + over - at) lent ys ≡ written items at (take over bytes)
-    = put_mid_written at (at + over - at) lent ys (take over bytes) (after ∙ front) short (omega (arith, within, ap length value)) ∙ ap (λ (l : List ℕ). written l at (take over bytes)) value in
+    = put_mid_written at (at + over - at) lent ys (take over bytes) (after ∙ prefix) short (omega (arith, within, ap length value)) ∙ ap (λ (l : List ℕ). written l at (take over bytes)) value in
     let whole : length (put_mid at (at + over - at) lent ys) ≡ length items = omega (arith, ap length mid, length-written items at (take over bytes), short, is, within) in
     ap (λ (l : List ℕ). l ++ rest) (refilled n (put_mid at (at + over - at) lent ys) items len whole) ∙ ap (λ (l : List ℕ). l ++ rest) mid ∙ ap (λ (l : List ℕ). written items at (take over bytes) ++ l) back
     ∙ written_in_two items bytes at over within is
@@ -125,8 +125,8 @@ pub filled : (content : List ℕ) (offset end have : ℕ) (buf zeros part : List
     → part ≡ take (length (take have (put_mid have (length buf - have) buf zeros))) (drop offset content)
     → HasBytes content offset (part ++ drop have (put_mid have (length buf - have) buf zeros))
 filled content offset end have buf zeros part long is blank read i lt = elim (cases_lt i have) [
-  | inl front ↦ get_or_append_left part (drop have (put_mid have (length buf - have) buf zeros)) 0 i (omega (arith, front, size)) ∙ ap (λ (l : List ℕ). get_or l i 0) read
-      ∙ get_or-take (length (take have (put_mid have (length buf - have) buf zeros))) (drop offset content) i 0 (omega (arith, front, short)) ∙ get_or-drop offset content i 0
+  | inl prefix ↦ get_or_append_left part (drop have (put_mid have (length buf - have) buf zeros)) 0 i (omega (arith, prefix, size)) ∙ ap (λ (l : List ℕ). get_or l i 0) read
+      ∙ get_or-take (length (take have (put_mid have (length buf - have) buf zeros))) (drop offset content) i 0 (omega (arith, prefix, short)) ∙ get_or-drop offset content i 0
   | inr behind ↦ get_or-append_right part (drop have (put_mid have (length buf - have) buf zeros)) have i 0 size behind ∙ get_or-drop have (put_mid have (length buf - have) buf zeros) (i - have) 0
       ∙ (let e : have + (i - have) ≡ i = omega (arith, behind) in ap (λ (j : ℕ). get_or (put_mid have (length buf - have) buf zeros) j 0) e)
       ∙ ap (λ (l : List ℕ). get_or l i 0) whole_is

@@ -64,12 +64,12 @@ impl<S: Seal> PageBlob<S> {
             return Ok(());
         }
         let below = self.below_tip(offset, buf.len());
-        let front = &mut buf[..below];
+        let prefix = &mut buf[..below];
         let source = PageSource {
             blob: self.blob(),
             cache: &self.cache,
         };
-        read_pages::<D, S>(self.alloc, dev, &source, offset, front)?;
+        read_pages::<D, S>(self.alloc, dev, &source, offset, prefix)?;
         self.copy_held(offset + below as u64, &mut buf[below..]);
         Ok(())
     }
@@ -103,8 +103,8 @@ impl<S: Seal> PageBlob<S> {
         if !self.has_below(offset, below) {
             return false;
         }
-        let front = &mut buf[..below];
-        self.cache.copy_out(self.page_size, offset, front);
+        let prefix = &mut buf[..below];
+        self.cache.copy_out(self.page_size, offset, prefix);
         self.copy_held(offset + below as u64, &mut buf[below..]);
         true
     }

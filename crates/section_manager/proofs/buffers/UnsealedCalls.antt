@@ -16,9 +16,9 @@ use Rattle.sealed_pages.specs.Sparing.{Lasts, SameByte, Spares, Sparing}
 use Rattle.sealed_pages.specs.unsealed.Writing.{WriteBuffer, shown, blob_key, run_of, StandsBehind, Over}
 use Rattle.sealed_pages.proofs.unsealed.ContentLemmas.{adds_keep}
 use Rattle.sealed_pages.proofs.looking.Looking.{content_length}
-use Rattle.section_manager.specs.Fronts.{IsFront}
+use Rattle.section_manager.specs.Prefixes.{IsPrefixOf}
 use Rattle.section_manager.specs.Leaving.{Leaves, AllMoments}
-use Rattle.section_manager.specs.unsealed.Buffer.{Stands, IsWhole, KeepsBytes, IsOldOrFront, MayKeep, content_of, is_unsettled}
+use Rattle.section_manager.specs.unsealed.Buffer.{Stands, IsWhole, KeepsBytes, IsOldOrPrefix, MayKeep, content_of, is_unsettled}
 use Rattle.section_manager.specs.unsealed.Laws.{all_weaker, all_old, idle_parts}
 
 module _ (u : WriteBlob) (R : ℕ → Type 0) (n m : ℕ) (le : m ≤ n) (small : m ≤ u.settled) (covers : (i : ℕ) → i < m → Outside (run_of (shown u) ∷ []) i → R i) where
@@ -36,7 +36,7 @@ module _ (u : WriteBlob) (R : ℕ → Type 0) (n m : ℕ) (le : m ≤ n) (small 
         same = λ i lt out loose. crash i lt (covers i lt out) loose;
       }
 
-  keeps : (from b : Blob) → Stands u from → Spares R n from b → (StandsBehind (shown u) → AllSince (IsOldOrFront u from) b) → Leaves (λ _ _. ⊤) (MayKeep u from m) b
+  keeps : (from b : Blob) → Stands u from → Spares R n from b → (StandsBehind (shown u) → AllSince (IsOldOrPrefix u from) b) → Leaves (λ _ _. ⊤) (MayKeep u from m) b
   keeps from b stands spares since left may = go left (crash_keeps from b stands spares left may)
     where
       go : (l : Option (List ℕ)) → IsSomeAnd l (KeepsBytes u from m) → IsSomeAnd l (λ c. ⊤ → MayKeep u from m (past b) c)
@@ -44,10 +44,10 @@ module _ (u : WriteBlob) (R : ℕ → Type 0) (n m : ℕ) (le : m ≤ n) (small 
       go (Some c) has = λ sealed. record { bytes = has; since = since }
 
   module _ (k : Key) (old new : Timeline) (stands : Stands u (disk old k)) (sparing : Sparing R n k old new) where
-    -- calls that make fronts of the buffer's bytes alone
-    pub all_moments : (made : List (List ℕ)) → AllByRecursion (λ c. IsFront c (content_of u (disk old k).content)) made → (StandsBehind (shown u) → AddsOnly made k old new)
+    -- calls that make prefixes of the buffer's bytes alone
+    pub all_moments : (made : List (List ℕ)) → AllByRecursion (λ c. IsPrefixOf c (content_of u (disk old k).content)) made → (StandsBehind (shown u) → AddsOnly made k old new)
         → AllMoments k (Leaves (λ _ _. ⊤) (MayKeep u (disk old k) m)) old new
-    all_moments made fronts adds = record {
+    all_moments made prefixes adds = record {
       later = sparing.later;
       kept = sparing.kept;
       each = λ t low high. record {
@@ -56,33 +56,33 @@ module _ (u : WriteBlob) (R : ℕ → Type 0) (n m : ℕ) (le : m ≤ n) (small 
       };
     }
       where
-        since : StandsBehind (shown u) → KeepsAll (IsOldOrFront u (disk old k)) k old new
-        since behind = adds_keep (IsOldOrFront u (disk old k)) made k old new (all_old u (disk old k))
-            (all_weaker (λ c. IsFront c (content_of u (disk old k).content)) (IsOldOrFront u (disk old k)) made (λ c front. inr front) fronts) (adds behind)
+        since : StandsBehind (shown u) → KeepsAll (IsOldOrPrefix u (disk old k)) k old new
+        since behind = adds_keep (IsOldOrPrefix u (disk old k)) made k old new (all_old u (disk old k))
+            (all_weaker (λ c. IsPrefixOf c (content_of u (disk old k).content)) (IsOldOrPrefix u (disk old k)) made (λ c prefix. inr prefix) prefixes) (adds behind)
 
 -- bytes begin with themselves
-pub front_itself : (c : List ℕ) → IsFront c c
-front_itself c = take_all (length c) c (omega arith)
+pub prefix_itself : (c : List ℕ) → IsPrefixOf c c
+prefix_itself c = take_all (length c) c (omega arith)
 
 -- and with as many of them as are taken
-pub front_taken : (n : ℕ) (c : List ℕ) → IsFront (take n c) c
-front_taken zero c = refl
-front_taken (suc n) [] = refl
-front_taken (suc n) (x ∷ c) = ap (λ (l : List ℕ). x ∷ l) (front_taken n c)
+pub prefix_taken : (n : ℕ) (c : List ℕ) → IsPrefixOf (take n c) c
+prefix_taken zero c = refl
+prefix_taken (suc n) [] = refl
+prefix_taken (suc n) (x ∷ c) = ap (λ (l : List ℕ). x ∷ l) (prefix_taken n c)
 
 module _ (u : WriteBlob) (k : Key) (old new : Timeline) (stands : Stands u (disk old k)) where
   -- a sync makes the whole bytes
   pub sync_moments : Sparing (Outside (run_of (shown u) ∷ [])) u.settled k old new → AddsOnly (content_of u (disk old k).content ∷ []) k old new
       → AllMoments k (Leaves (λ _ _. ⊤) (MayKeep u (disk old k) u.settled)) old new
   sync_moments sparing adds = all_moments u (Outside (run_of (shown u) ∷ [])) u.settled u.settled (omega arith) (omega arith) (λ i lt out. out) k old new stands sparing
-      (content_of u (disk old k).content ∷ []) (front_itself (content_of u (disk old k).content), tt) (λ behind. adds)
+      (content_of u (disk old k).content ∷ []) (prefix_itself (content_of u (disk old k).content), tt) (λ behind. adds)
 
   -- a cut makes the cut bytes, where nothing is pending below the blob's end
   pub cut_moments : (n : ℕ) → Sparing (λ i. (i < n) × Outside (run_of (shown u) ∷ []) i) (min u.settled n) k old new
       → ((u.end ≤ u.at) ⊎ ((n ≤ u.at) ⊎ (length u.pending.items ≡ 0)) → AddsOnly (take n (content_of u (disk old k).content) ∷ []) k old new)
       → AllMoments k (Leaves (λ _ _. ⊤) (MayKeep u (disk old k) (min u.settled n))) old new
   cut_moments n sparing adds = all_moments u (λ i. (i < n) × Outside (run_of (shown u) ∷ []) i) (min u.settled n) (min u.settled n) (omega arith) (omega arith) (λ i lt out. (omega (arith, lt), out)) k old new stands sparing
-      (take n (content_of u (disk old k).content) ∷ []) (front_taken n (content_of u (disk old k).content), tt) (λ behind. adds (few behind))
+      (take n (content_of u (disk old k).content) ∷ []) (prefix_taken n (content_of u (disk old k).content), tt) (λ behind. adds (few behind))
     where
       few : StandsBehind (shown u) → (u.end ≤ u.at) ⊎ ((n ≤ u.at) ⊎ (length u.pending.items ≡ 0))
       few (inl behind) = inl behind

@@ -7,7 +7,7 @@ use Rattle.sealed_pages.specs.Sparing.{SameByte}
 use Rattle.sealed_pages.specs.unsealed.Writing.{shown, blob_key, bytes_of, size_of, run_of, StandsBehind, Over}
 use Rattle.sealed_pages.specs.unsealed.Writing as writing
 use Rattle.section_manager.specs.Setting.{Setting}
-use Rattle.section_manager.specs.Fronts.{IsFront}
+use Rattle.section_manager.specs.Prefixes.{IsPrefixOf}
 
 abbrev pub setting_of : WriteBlob → Setting
 setting_of u = record { page_size = 1; capacity = u.capacity; cache_pages = 0 }
@@ -48,11 +48,11 @@ pub record KeepsBytes (u : WriteBlob) (b : Blob) (least : ℕ) (c : List ℕ) : 
   pub same : (i : ℕ) → i < least → Outside (run_of (shown u) ∷ []) i → Outside b.loose i → SameByte i b.content c
 
 -- the blob has had this content since it settled, or the buffer's bytes begin with it
-abbrev pub IsOldOrFront : WriteBlob → Blob → List ℕ → Type 0
-IsOldOrFront u b c = Contains (past b) c ⊎ IsFront c (content_of u b.content)
+abbrev pub IsOldOrPrefix : WriteBlob → Blob → List ℕ → Type 0
+IsOldOrPrefix u b c = Contains (past b) c ⊎ IsPrefixOf c (content_of u b.content)
 
 -- A crash may leave these bytes, which keep so many. Where nothing was pending below the blob's end, each content that the blob has had
--- since it settled is one that it had had before, or a front of the buffer's bytes.
+-- since it settled is one that it had had before, or a prefix of the buffer's bytes.
 pub record MayKeep (u : WriteBlob) (b : Blob) (least : ℕ) (contents : List (List ℕ)) (c : List ℕ) : Type 0 where
   pub bytes : KeepsBytes u b least c
-  pub since : StandsBehind (shown u) → AllByRecursion (IsOldOrFront u b) contents
+  pub since : StandsBehind (shown u) → AllByRecursion (IsOldOrPrefix u b) contents

@@ -10,7 +10,7 @@ use Rattle.sealed_pages.proofs.WriteLemmas.{written_nothing}
 use Rattle.sealed_pages.specs.declared.write_blob.WriteBlob.{WriteBlob}
 use Rattle.sealed_pages.specs.Cutting.{IsAtRest}
 use Rattle.section_manager.specs.Leaving.{Leaves}
-use Rattle.section_manager.specs.unsealed.Buffer.{Stands, IsWhole, IsOldOrFront, MayKeep, content_of, count_of, settled_of, is_unsettled}
+use Rattle.section_manager.specs.unsealed.Buffer.{Stands, IsWhole, IsOldOrPrefix, MayKeep, content_of, count_of, settled_of, is_unsettled}
 use Rattle.blob_device.specs.Lengths.{length-written}
 
 -- what is known of each has a weaker form
@@ -19,8 +19,8 @@ all_weaker P Q [] weaker all = tt
 all_weaker P Q (c ∷ cs) weaker all = (weaker c all.0, all_weaker P Q cs weaker all.1)
 
 -- the contents that a blob has had are old
-pub all_old : (u : WriteBlob) (b : Blob) → AllByRecursion (IsOldOrFront u b) (past b)
-all_old u b = all_weaker (Contains (past b)) (IsOldOrFront u b) (past b) (λ c among. inl among) (recursion_from_All (Contains (past b)) (past b) (All-contains_itself (past b)))
+pub all_old : (u : WriteBlob) (b : Blob) → AllByRecursion (IsOldOrPrefix u b) (past b)
+all_old u b = all_weaker (Contains (past b)) (IsOldOrPrefix u b) (past b) (λ c among. inl among) (recursion_from_All (Contains (past b)) (past b) (All-contains_itself (past b)))
 
 pub passes : (u : WriteBlob) (b : Blob) → Stands u b → Leaves (λ _ _. ⊤) (MayKeep u b (settled_of u)) b
 passes u b stands None left =

@@ -165,9 +165,9 @@ module _ {S : Type 0} {gs : _} (seal : List ℕ → ℕ) (g : buffer.Ghosts (Pag
       go (Some c) has = λ no. subst (λ (m : ℕ). Prefix seal u.page_size (bytes_of (shown u) from.content) m c) same ((pages.keeps u from least (past b) c (has (pages.no_chance u (past b) c no))).sealed sealed)
 
   -- what passes the test of one that is not is a prefix of its sealed prefix
-  pub leaves_front : (from b : Blob) (least n : ℕ) → min least (length (sealed_prefix seal u.page_size from.content)) ≡ n → IsUnrecovered seal (shown u) from → Leaves (g.NoChanceSeal u) (g.MayKeep u from least) b
+  pub leaves_prefix : (from b : Blob) (least n : ℕ) → min least (length (sealed_prefix seal u.page_size from.content)) ≡ n → IsUnrecovered seal (shown u) from → Leaves (g.NoChanceSeal u) (g.MayKeep u from least) b
       → chance.Leaves seal u.page_size (sealed_prefix seal u.page_size from.content) n b
-  leaves_front from b least n same un leaves left may = go left (leaves left may)
+  leaves_prefix from b least n same un leaves left may = go left (leaves left may)
     where
       go : (l : Option (List ℕ)) → IsSomeAnd l (λ c. g.NoChanceSeal u (past b) c → g.MayKeep u from least (past b) c)
           → IsSomeAnd l (λ c. NoChanceSeal seal u.page_size (past b) c → Prefix seal u.page_size (sealed_prefix seal u.page_size from.content) n c)
@@ -190,9 +190,9 @@ module _ {F S : Type 0} {gs : _} (seal : List ℕ → ℕ) (size : ℕ) (told : 
   pub settling_of : told → Always a b (Each (Syncing g j.sections IsNamed (disk a))) → Always a b (Each (Settling seal j IsNamed (disk a)))
   settling_of t = always_weaker a b (Each (Syncing g j.sections IsNamed (disk a))) (Each (Settling seal j IsNamed (disk a))) (λ d each q. record {
     named = λ s u is held sealed at. leaves_sealed seal g pages u (disk a q) (d q) (g.settled u) u.settled (pages.settled u) sealed ((each q).named s u is held at);
-    front = λ s u is held un at. (let n = length (sealed_prefix seal u.page_size (disk a q).content) in
+    prefix = λ s u is held un at. (let n = length (sealed_prefix seal u.page_size (disk a q).content) in
         let all : n ≤ u.settled = prefix_settled seal (shown u) (disk a q) (omega (arith, u.fit.begun)) un in
-        leaves_front seal g pages u (disk a q) (d q) (g.settled u) n (omega (arith, pages.settled u, all)) un ((each q).named s u is held at));
+        leaves_prefix seal g pages u (disk a q) (d q) (g.settled u) n (omega (arith, pages.settled u, all)) un ((each q).named s u is held at));
     others = λ not. (each q).others (λ w. (let owes = unsettled_recovered w.0 w.1.1 in not (w.0, (w.1.0, owes.0, owes.1), w.2)));
   })
 

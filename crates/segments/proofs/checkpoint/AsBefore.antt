@@ -8,7 +8,7 @@ use Rattle.sealed_pages.specs.View.{view}
 use Rattle.value_codec.specs.declared.codec.Error as codec
 use Rattle.section_manager.specs.Sections.{section_key}
 use Rattle.section_manager.specs.declared.journal.Damage.{Damage}
-use Rattle.segments.specs.FixedCheckpoint.{boundary_at, IsUnder, IsRefused, IsKept, IsPassed, IsRefusedItem, IsShown, AreChecked}
+use Rattle.segments.specs.FixedCheckpoint.{boundary_at, IsUnder, IsCheckpointRefused, IsKept, IsPassed, IsCheckpointItemRefused, IsShown, AreChecked}
 use Rattle.segments.specs.FixedFloors.{Floors, IsBoundary}
 use Rattle.blob_device.proofs.general.Options.{has_value, value_of}
 
@@ -33,7 +33,7 @@ module _ (seal : List ℕ → ℕ) (P size : ℕ) (partition : List ℕ) (at byt
     under_back s (inl own) = inl own
     under_back s (inr under) = inr (under.0, alike.there s ∙ under.1)
 
-    pub refused_same : (s : ℕ) (x : Damage) → IsRefused seal P size partition at bytes e s x → IsRefused seal P size partition at bytes d s x
+    pub refused_same : (s : ℕ) (x : Damage) → IsCheckpointRefused seal P size partition at bytes e s x → IsCheckpointRefused seal P size partition at bytes d s x
     refused_same s x (inl p) = inl (record {
       partial = λ none. p.partial (ap (λ (n : ℕ). n % size) (boundary_same s) ∙ none);
       kept = p.kept ∙ boundary_same s;
@@ -42,7 +42,7 @@ module _ (seal : List ℕ → ℕ) (P size : ℕ) (partition : List ℕ) (at byt
     refused_same s x (inr (inl missing)) = inr (inl (record { own = missing.own; some = missing.some; absent = sym (alike.there s) ∙ missing.absent; kept = missing.kept; wanted = missing.wanted }))
     refused_same s x (inr (inr un)) = inr (inr (record { there = sym (alike.there s) ∙ un.there; kept = un.kept ∙ length_same s; wanted = un.wanted ∙ boundary_same s; less = un.less }))
 
-    pub item_same : (refusal : List ℕ → Unit {0} → Option codec.Error) (s : ℕ) (x : codec.Error) → IsRefusedItem seal P size partition at bytes e refusal s x → IsRefusedItem seal P size partition at bytes d refusal s x
+    pub item_same : (refusal : List ℕ → Unit {0} → Option codec.Error) (s : ℕ) (x : codec.Error) → IsCheckpointItemRefused seal P size partition at bytes e refusal s x → IsCheckpointItemRefused seal P size partition at bytes d refusal s x
     item_same refusal s x is = record {
       some = omega (arith, is.some, boundary_same s);
       covered = subst (λ (n : ℕ). IsCovered seal P (d (section_key partition s)).content (n - size) size) (boundary_same s)
@@ -82,7 +82,7 @@ module _ (seal : List ℕ → ℕ) (P size : ℕ) (partition : List ℕ) (at byt
 
 -- a checkpoint of which all is sealed is not refused
 pub kept_none : (seal : List ℕ → ℕ) (P size : ℕ) (partition : List ℕ) (at bytes : ℕ) (d : Disk) (s : ℕ) (x : Damage) → (s ≡ at → boundary_at seal P size partition at bytes d s ≡ bytes)
-    → IsKept seal P size partition at bytes d s → IsRefused seal P size partition at bytes d s x → ⊥
+    → IsKept seal P size partition at bytes d s → IsCheckpointRefused seal P size partition at bytes d s x → ⊥
 kept_none seal P size partition at bytes d s x own kept (inl p) = p.partial kept.whole
 kept_none seal P size partition at bytes d s x own kept (inr (inl missing)) = (let here = own missing.own in let some = missing.some in let gone = missing.absent in
     let there = kept.there (omega (arith, here, some)) in absurd (cc (there, gone)))

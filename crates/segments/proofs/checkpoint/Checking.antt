@@ -27,7 +27,7 @@ use Rattle.section_manager.specs.declared.buffer.SectionBuffer as buffer
 use Rattle.section_manager.specs.declared.journal.Damage.{Damage}
 use Rattle.section_manager.specs.declared.journal.Error.{Error}
 use Rattle.section_manager.specs.declared.journal.Error.TheVariants.{Codec, Corruption}
-use Rattle.segments.specs.FixedCheckpoint.{boundary_at, IsUnder, IsRefused, IsPassed, IsRefusedItem, IsShown, AreChecked, HasCome, Looks}
+use Rattle.segments.specs.FixedCheckpoint.{boundary_at, IsUnder, IsCheckpointRefused, IsPassed, IsCheckpointItemRefused, IsShown, AreChecked, HasCome, Looks}
 use Rattle.segments.specs.FixedChecks.{ChecksMarker}
 use Rattle.segments.specs.declared.fixed.preflighting.Target.{Target}
 use Rattle.segments.specs.FixedFloors as marks
@@ -62,7 +62,7 @@ module _ (seal : List ℕ → ℕ) (P size : ℕ) (partition : List ℕ) (at byt
   module _ (s items : ℕ) (ends : boundary_at seal P size partition at bytes d s ≡ items * size) where
     -- the damage that the check of so many items finds
     pub damage_of : (x : Damage) → items * size < 2 ^ 64 → IsTrue (d (section_key partition s)).there ⊎ ((s ≡ at) × (0 < bytes))
-        → marks.IsRefused seal P size (d (section_key partition s)) items x → IsRefused seal P size partition at bytes d s x
+        → marks.IsRefused seal P size (d (section_key partition s)) items x → IsCheckpointRefused seal P size partition at bytes d s x
     damage_of x fits own (inl many) = absurd (omega (arith, fits, many.many))
     damage_of x fits own (inr (inl missing)) = elim own [
       | inl there ↦ (let gone = missing.absent in absurd (cc (there, gone)))
@@ -94,7 +94,7 @@ module _ (seal : List ℕ → ℕ) (P size : ℕ) (partition : List ℕ) (at byt
     pub refused_of : (refusal : List ℕ → Unit {0} → Option codec.Error) (e : codec.Error) → 1 ≤ size → 0 < items
         → refusal (data_from P (view (d (section_key partition s)).content) ((items - 1) * size) size) tt ≡ Some e
         → IsCovered seal P (d (section_key partition s)).content ((items - 1) * size) size
-        → IsRefusedItem seal P size partition at bytes d refusal s e
+        → IsCheckpointItemRefused seal P size partition at bytes d refusal s e
     refused_of refusal e pos some bad covered = record {
       some = some_bytes pos some;
       covered = subst (λ (n : ℕ). IsCovered seal P (d (section_key partition s)).content n size) (sym (last_start some)) covered;
@@ -243,9 +243,9 @@ module _ {A D F S : Type 0} {gs : _} (seal : List ℕ → ℕ) (P size : ℕ) (p
     ends = had.ends;
     unchanged = λ t. unchanged_then (dev.time a) (dev.time b) (dev.time c) (same t) (had.unchanged t);
     entries = λ q none. had.entries q none ∙ entries q none;
-    damage = λ t x bad. subst (λ (d : Disk). IsUnder seal P size partition at bytes d x.section × IsRefused seal P size partition at bytes d x.section x
+    damage = λ t x bad. subst (λ (d : Disk). IsUnder seal P size partition at bytes d x.section × IsCheckpointRefused seal P size partition at bytes d x.section x
         × ((s : ℕ) → s < x.section → IsUnder seal P size partition at bytes d s → IsPassed seal P size partition at bytes d spelling accepted s)) (unchanged_now (dev.time a) (dev.time b) (same t)) (had.damage t x bad);
-    refused = λ t e bad. subst (λ (d : Disk). (s : ℕ) × IsUnder seal P size partition at bytes d s × IsRefusedItem seal P size partition at bytes d refusal s e
+    refused = λ t e bad. subst (λ (d : Disk). (s : ℕ) × IsUnder seal P size partition at bytes d s × IsCheckpointItemRefused seal P size partition at bytes d refusal s e
         × ((q : ℕ) → q < s → IsUnder seal P size partition at bytes d q → IsPassed seal P size partition at bytes d spelling accepted q)) (unchanged_now (dev.time a) (dev.time b) (same t)) (had.refused t e bad);
     faults = omega (arith, faults, had.faults);
     cause = since r had.cause;
@@ -275,7 +275,7 @@ module _ {A D F S : Type 0} {gs : _} (seal : List ℕ → ℕ) (P size : ℕ) (p
     damage = λ t x of.
         let own : Damage = record { section = s; kept = n; wanted = whole } in
         let same : own ≡ x = cc (bad, of) in
-        subst (λ (y : Damage). IsUnder seal P size partition at bytes (disk (dev.time old)) y.section × IsRefused seal P size partition at bytes (disk (dev.time old)) y.section y
+        subst (λ (y : Damage). IsUnder seal P size partition at bytes (disk (dev.time old)) y.section × IsCheckpointRefused seal P size partition at bytes (disk (dev.time old)) y.section y
         × ((q : ℕ) → q < y.section → IsUnder seal P size partition at bytes (disk (dev.time old)) q → IsPassed seal P size partition at bytes (disk (dev.time old)) spelling accepted q)) same (
           under t,
           inl (record {
@@ -311,7 +311,7 @@ module _ {A D F S : Type 0} {gs : _} (seal : List ℕ → ℕ) (P size : ℕ) (p
         damage = λ t x bad.
             let had = has.damage t x bad in
             let at_s = damage_of seal P size partition at bytes (disk (dev.time old)) s items (ends t) x fits (own t) had.1 in
-            subst (λ (y : ℕ). IsUnder seal P size partition at bytes (disk (dev.time old)) y × IsRefused seal P size partition at bytes (disk (dev.time old)) y x
+            subst (λ (y : ℕ). IsUnder seal P size partition at bytes (disk (dev.time old)) y × IsCheckpointRefused seal P size partition at bytes (disk (dev.time old)) y x
             × ((q : ℕ) → q < y → IsUnder seal P size partition at bytes (disk (dev.time old)) q → IsPassed seal P size partition at bytes (disk (dev.time old)) spelling accepted q)) (sym had.0)
             (under t, at_s, below t);
         refused = λ t e bad. (let had = has.refused t e bad in

@@ -128,9 +128,9 @@ module _ {A S : Type 0} {gs : _} (seal : List ℕ → ℕ) (size at bytes : ℕ)
           let long : bytes < adopted_size seal pages.page_size (disk now (section_key p at)).content = omega (arith, size_adopted l at is_held, ap size_held own, more, is.1) in
           let paged : u.page_size ≡ pages.page_size = sym (are.page_size u) ∙ ap (λ (x : Setting). x.page_size) (opened.over.opened_list.setting at u own) ∙ page in
           let key : key_of m t.section ≡ section_key p at = ap (λ (s : ℕ). key_of m s) is.0 ∙ ap (λ (x : List ℕ). section_key x at) opened.place in
-          let front : length (sealed_prefix seal u.page_size (disk now (key_of m t.section)).content) ≡ length (sealed_prefix seal pages.page_size (disk now (section_key p at)).content) =
+          let prefix : length (sealed_prefix seal u.page_size (disk now (key_of m t.section)).content) ≡ length (sealed_prefix seal pages.page_size (disk now (section_key p at)).content) =
           ap (λ (n : ℕ). length (sealed_prefix seal n (disk now (key_of m t.section)).content)) paged ∙ ap (λ (k : Key). length (sealed_prefix seal pages.page_size (disk now k).content)) key in
-          omega (arith, passed.sealed refl long, front, is.1);
+          omega (arith, passed.sealed refl long, prefix, is.1);
       owes = λ s owes. owes_own s owes ∙ sym is.0;
       there = λ some. elim (none_or_value (m.held t.section)) [
         | inl none ↦ absurd (omega (arith, some, ap size_held none, reached t.section, ap f.floor_of is.0, end, is.1))

@@ -23,7 +23,7 @@ use Rattle.section_manager.specs.declared.journal.Error.TheVariants.{Codec, Corr
 use Rattle.section_manager.specs.declared.sealed.AppendFactory.{AppendFactory}
 use Rattle.section_manager.proofs.InitLemmas.{settling_start}
 use Rattle.segments.specs.FixedBounds.{whole_of}
-use Rattle.segments.specs.FixedCheckpoint.{boundary_at, IsUnder, IsRefused, IsPassed, HasCome, Looks, Checks}
+use Rattle.segments.specs.FixedCheckpoint.{boundary_at, IsUnder, IsCheckpointRefused, IsPassed, HasCome, Looks, Checks}
 use Rattle.segments.specs.FixedFloors.{Floors, AreAdopted}
 use Rattle.segments.proofs.checkpoint.AsBefore.{ReadsAs, under_same, under_back, refused_same, item_same, passed_same, kept_none}
 use Rattle.segments.proofs.checkpoint.Checking.{boundary_own}
@@ -75,11 +75,11 @@ module _ {A D T : Type 0} (seal : List ℕ → ℕ) (P size : ℕ) (p : List ℕ
       own : (o : D) → boundary_at seal P size p at bytes (disk (dev.time o)) at ≡ bytes
       own o = boundary_own seal P size p at bytes (disk (dev.time o)) at refl
 
-      damaged : (x : Damage) → IsErrOf r (Corruption x) → IsUnder seal P size p at bytes (disk (dev.time old)) x.section × IsRefused seal P size p at bytes (disk (dev.time old)) x.section x
+      damaged : (x : Damage) → IsErrOf r (Corruption x) → IsUnder seal P size p at bytes (disk (dev.time old)) x.section × IsCheckpointRefused seal P size p at bytes (disk (dev.time old)) x.section x
       damaged x of =
           let d : Damage = record { section = at; kept = bytes; wanted = whole_of size bytes } in
           let same : d ≡ x = cc (is, bad, of) in
-          subst (λ (y : Damage). IsUnder seal P size p at bytes (disk (dev.time old)) y.section × IsRefused seal P size p at bytes (disk (dev.time old)) y.section y) same
+          subst (λ (y : Damage). IsUnder seal P size p at bytes (disk (dev.time old)) y.section × IsCheckpointRefused seal P size p at bytes (disk (dev.time old)) y.section y) same
           (inl refl, inl (record { partial = λ not. rest (sym (ap (λ (n : ℕ). n % size) (own old)) ∙ not); kept = sym (own old); wanted = ap (λ (n : ℕ). whole_of size n) (sym (own old)) }))
 
   -- its sections were not opened
@@ -151,7 +151,7 @@ module _ {A D T : Type 0} (seal : List ℕ → ℕ) (P size : ℕ) (p : List ℕ
             let alike = reads_as seal P size p at bytes (dev.time old) (dev.time mid) (moments t) in
             passed_same seal P size p at bytes (disk (dev.time mid)) (disk (dev.time old)) alike spelling accepted q (had q less (under_back seal P size p at bytes (disk (dev.time mid)) (disk (dev.time old)) alike q under))
 
-        damaged : dev.Tells → (x : Damage) → IsErrOf r (Corruption x) → IsUnder seal P size p at bytes (disk (dev.time old)) x.section × IsRefused seal P size p at bytes (disk (dev.time old)) x.section x
+        damaged : dev.Tells → (x : Damage) → IsErrOf r (Corruption x) → IsUnder seal P size p at bytes (disk (dev.time old)) x.section × IsCheckpointRefused seal P size p at bytes (disk (dev.time old)) x.section x
             × ((q : ℕ) → q < x.section → IsUnder seal P size p at bytes (disk (dev.time old)) q → IsPassed seal P size p at bytes (disk (dev.time old)) spelling accepted q)
         damaged t x of =
             let had = looks.damage t x (error_back r e (Corruption x) is of) in

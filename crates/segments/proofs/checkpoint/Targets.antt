@@ -20,7 +20,7 @@ use Rattle.section_manager.specs.declared.buffer.SectionBuffer as buffer
 use Rattle.section_manager.specs.declared.journal.Damage.{Damage}
 use Rattle.section_manager.specs.declared.journal.Error.{Error}
 use Rattle.section_manager.specs.declared.journal.Error.TheVariants.{Corruption, Mem}
-use Rattle.segments.specs.FixedCheckpoint.{boundary_at, IsUnder, IsRefused, IsPassed, IsShown, HasCome, Looks}
+use Rattle.segments.specs.FixedCheckpoint.{boundary_at, IsUnder, IsCheckpointRefused, IsPassed, IsShown, HasCome, Looks}
 use Rattle.segments.specs.FixedFloors.{Floors, AreAdopted}
 use Rattle.segments.specs.declared.fixed.preflighting.Target.{Target}
 use Rattle.segments.proofs.checkpoint.Checking.{come_add, come_one, Answers, boundary_own, passes_below, looks_one}
@@ -141,7 +141,7 @@ module _ {A D F S T : Type 0} {gs : _} (seal : List ℕ → ℕ) (P size : ℕ) 
               ∙ ap (λ (p : ℕ). length (sealed_prefix seal p (disk (dev.time mid) (key_of m at)).content)) (paged u.value u.is)
               ∙ ap (λ (d : Disk). length (sealed_prefix seal P (d (key_of m at)).content)) (unchanged_now (dev.time old) (dev.time mid) (has.unchanged t)) in
               let own = boundary_own seal P size m.partition at bytes (disk (dev.time old)) at refl in
-              subst (λ (s : ℕ). IsUnder seal P size m.partition at bytes (disk (dev.time old)) s × IsRefused seal P size m.partition at bytes (disk (dev.time old)) s y
+              subst (λ (s : ℕ). IsUnder seal P size m.partition at bytes (disk (dev.time old)) s × IsCheckpointRefused seal P size m.partition at bytes (disk (dev.time old)) s y
               × ((q : ℕ) → q < s → IsUnder seal P size m.partition at bytes (disk (dev.time old)) q → IsPassed seal P size m.partition at bytes (disk (dev.time old)) spelling accepted q)) (sym u.has.0) (
                 inl refl,
                 inr (inr (record {
@@ -192,8 +192,8 @@ module _ {A D F S T : Type 0} {gs : _} (seal : List ℕ → ℕ) (P size : ℕ) 
               | inr u ↦
                   let content = unchanged_now (dev.time old) (dev.time mid) (has.unchanged t) in
                   let size_is : size_of (shown u.0) ≡ adopted_size seal P (disk (dev.time old) (key_of m at)).content = (adopted t at u.0 u.1).size ∙ ap (λ (p : ℕ). adopted_size seal p (disk (dev.time old) (key_of m at)).content) (paged u.0 u.1) in
-                  let front : bytes ≤ length (sealed_prefix seal u.0.page_size (disk (dev.time mid) (key_of m at)).content) =
+                  let prefix : bytes ≤ length (sealed_prefix seal u.0.page_size (disk (dev.time mid) (key_of m at)).content) =
                   subst (λ (x : Sections F (PageBlob S gs)). (w : PageBlob S gs) → x.held at ≡ Some w → bytes < size_of (shown w) → bytes ≤ length (sealed_prefix seal w.page_size (disk (dev.time mid) (key_of x at)).content)) is_k (sealed t) u.0 u.1 (omega (arith, more, size_is)) in
                   subst (λ (p : ℕ). bytes ≤ length (sealed_prefix seal p (disk (dev.time old) (key_of m at)).content)) (paged u.0 u.1)
-                  (subst (λ (d : Disk). bytes ≤ length (sealed_prefix seal u.0.page_size (d (key_of m at)).content)) content front)
+                  (subst (λ (d : Disk). bytes ≤ length (sealed_prefix seal u.0.page_size (d (key_of m at)).content)) content prefix)
             ]

@@ -22,7 +22,7 @@ use Rattle.section_manager.specs.Setting.{Setting}
 use Rattle.section_manager.specs.lemmas.Keys.{keys_differ}
 use Rattle.section_manager.proofs.sections.OverLemmas.{same_key}
 use Rattle.segments.specs.FixedLists.{Lists, section_bytes, IsJournal, IsProven}
-use Rattle.segments.proofs.adding.WriteLemmas.{ArePages, IsFine, fine_of, journal_of, fine_same, fine_none, leaves_sealed, leaves_front, proven_back, proven_or_not}
+use Rattle.segments.proofs.adding.WriteLemmas.{ArePages, IsFine, fine_of, journal_of, fine_same, fine_none, leaves_sealed, leaves_prefix, proven_back, proven_or_not}
 use Rattle.blob_device.proofs.general.Numbers.{no_rest, times_more}
 use Rattle.blob_device.proofs.general.Options.{has_value, none_or_value, some_same, value_of}
 
@@ -32,14 +32,14 @@ empty_sealed seal u b begun none adopted = adopted_sealed seal u b adopted (λ k
 
 module _ {S : Type 0} {gs : _} (seal : List ℕ → ℕ) (g : buffer.Ghosts (PageBlob S gs)) (pages : ArePages g seal) (u : PageBlob S gs) where
   -- of a buffer of which all has settled: its bytes are its sealed prefix, or it has more
-  pub settled_front : (from b : Blob) (least n : ℕ) → u.settled ≡ size_of (shown u) → least ≡ min u.settled n → IsAdopted seal (shown u) from → Leaves (g.NoChanceSeal u) (g.MayKeep u from least) b
+  pub settled_prefix : (from b : Blob) (least n : ℕ) → u.settled ≡ size_of (shown u) → least ≡ min u.settled n → IsAdopted seal (shown u) from → Leaves (g.NoChanceSeal u) (g.MayKeep u from least) b
       → chance.Leaves seal u.page_size (sealed_prefix seal u.page_size from.content) (min n (length (sealed_prefix seal u.page_size from.content))) b
-  settled_front from b least n settled is (inl sealed) leaves =
+  settled_prefix from b least n settled is (inl sealed) leaves =
       let settles = settles_of seal (shown u) u.page_size (bytes_of (shown u) from.content) from refl u.fit.begun (all_flushed (shown u) u.fit.within u.order settled) settled sealed.holds in
       subst (λ (l : List ℕ). chance.Leaves seal u.page_size l (min n (length (sealed_prefix seal u.page_size from.content))) b) (sym settles.prefix)
       (leaves_sealed seal g pages u from b least (min n (length (sealed_prefix seal u.page_size from.content))) (omega (arith, is, settled, ap length settles.prefix, sealed.holds.size)) sealed leaves)
-  settled_front from b least n settled is (inr un) leaves =
-      leaves_front seal g pages u from b least (min n (length (sealed_prefix seal u.page_size from.content))) (omega (arith, is, settled, (unrecovered_prefix seal (shown u) from (omega (arith, u.fit.begun)) un).1)) un leaves
+  settled_prefix from b least n settled is (inr un) leaves =
+      leaves_prefix seal g pages u from b least (min n (length (sealed_prefix seal u.page_size from.content))) (omega (arith, is, settled, (unrecovered_prefix seal (shown u) from (omega (arith, u.fit.begun)) un).1)) un leaves
 
 module _ {F S : Type 0} {gs : _} (seal : List ℕ → ℕ) (size : ℕ) (told : Type 0) (g : buffer.Ghosts (PageBlob S gs)) (pages : ArePages g seal) (gives : F → Setting) (j : Lists F (PageBlob S gs)) (old : OpenedList) (a b : Timeline)
     (journal : IsJournal g gives seal size told j old (disk a)) (s n : ℕ) where
@@ -66,14 +66,14 @@ module _ {F S : Type 0} {gs : _} (seal : List ℕ → ℕ) (size : ℕ) (told : 
           let all : length (sealed_prefix seal u.page_size (disk a (key_of j.sections s)).content) ≤ u.settled = prefix_settled seal (shown u) (disk a (key_of j.sections s)) (omega (arith, u.fit.begun)) un in
           only_weaker a b (key_of j.sections s) (disk a) (λ x. (w : PageBlob S gs) → j.sections.held s ≡ Some w → Leaves (g.NoChanceSeal w) (g.MayKeep w (disk a (key_of j.sections s)) (min (g.settled w) n)) x)
           (chance.Leaves seal u.page_size (sealed_prefix seal u.page_size (disk a (key_of j.sections s)).content) (min n (length (sealed_prefix seal u.page_size (disk a (key_of j.sections s)).content))))
-          (λ x leaves. leaves_front seal g pages u (disk a (key_of j.sections s)) x (min (g.settled u) n) (min n (length (sealed_prefix seal u.page_size (disk a (key_of j.sections s)).content))) (omega (arith, pages.settled u, all)) un (leaves u held))
+          (λ x leaves. leaves_prefix seal g pages u (disk a (key_of j.sections s)) x (min (g.settled u) n) (min n (length (sealed_prefix seal u.page_size (disk a (key_of j.sections s)).content))) (omega (arith, pages.settled u, all)) un (leaves u held))
           moments
 
-      pub cut_front : IsTrue (j.unrecovered s) → Sealing seal u.page_size (sealed_prefix seal u.page_size (disk a (key_of j.sections s)).content)
+      pub cut_prefix : IsTrue (j.unrecovered s) → Sealing seal u.page_size (sealed_prefix seal u.page_size (disk a (key_of j.sections s)).content)
           (min n (length (sealed_prefix seal u.page_size (disk a (key_of j.sections s)).content))) (key_of j.sections s) a b
-      cut_front owes = only_weaker a b (key_of j.sections s) (disk a) (λ x. (w : PageBlob S gs) → j.sections.held s ≡ Some w → Leaves (g.NoChanceSeal w) (g.MayKeep w (disk a (key_of j.sections s)) (min (g.settled w) n)) x)
+      cut_prefix owes = only_weaker a b (key_of j.sections s) (disk a) (λ x. (w : PageBlob S gs) → j.sections.held s ≡ Some w → Leaves (g.NoChanceSeal w) (g.MayKeep w (disk a (key_of j.sections s)) (min (g.settled w) n)) x)
           (chance.Leaves seal u.page_size (sealed_prefix seal u.page_size (disk a (key_of j.sections s)).content) (min n (length (sealed_prefix seal u.page_size (disk a (key_of j.sections s)).content))))
-          (λ x leaves. settled_front seal g pages u (disk a (key_of j.sections s)) x (min (g.settled u) n) n (journal.owes_settled.settled s u held owes) (ap (λ (m : ℕ). min m n) (pages.settled u)) adopted (leaves u held))
+          (λ x leaves. settled_prefix seal g pages u (disk a (key_of j.sections s)) x (min (g.settled u) n) n (journal.owes_settled.settled s u held owes) (ap (λ (m : ℕ). min m n) (pages.settled u)) adopted (leaves u held))
           moments
 
   module _ (k : Lists F (PageBlob S gs)) (Q : Blob → Type 0) (small : s < 2 ^ 64) (bounds : SameBounds j.sections k.sections) (unopened : k.sections.unopened s ≡ j.sections.unopened s)

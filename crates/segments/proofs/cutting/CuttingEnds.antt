@@ -16,7 +16,7 @@ use Rattle.section_manager.specs.lemmas.Seen.{err_same, failed_again}
 use Rattle.section_manager.specs.lemmas.Keys.{keys_differ}
 use Rattle.segments.specs.FixedCutting.{Cuts, IsLongerHere}
 use Rattle.segments.specs.FixedLists.{Lists, IsJournal}
-use Rattle.segments.proofs.cutting.CutLemmas.{cut_front, cut_journal, cut_sealing, cut_unsealed}
+use Rattle.segments.proofs.cutting.CutLemmas.{cut_prefix, cut_journal, cut_sealing, cut_unsealed}
 use Rattle.segments.proofs.held.Passing.{guard_ok, no_error}
 use Rattle.segments.proofs.adding.Spared.{bytes_spared}
 use Rattle.segments.proofs.adding.WriteLemmas.{ArePages}
@@ -45,7 +45,7 @@ module _ {F S D : Type 0} {gs : _} (g : buffer.Ghosts (PageBlob S gs)) (gives : 
     floors = tt;
     alone = λ t. only_weaker (dev.time old) (dev.time new) (key_of j.sections section) (disk (dev.time old)) _ (λ b. Unit {0}) (λ x leaves. tt) (did.moments t);
     moments = λ t u held sealed. cut_sealing seal size dev.Tells g pages gives j (dev.opened old) (dev.time old) (dev.time new) journal section n t u held (did.moments t) sealed;
-    front = λ t u held owes. cut_front seal size dev.Tells g pages gives j (dev.opened old) (dev.time old) (dev.time new) journal section n t u held (did.moments t) owes;
+    prefix = λ t u held owes. cut_prefix seal size dev.Tells g pages gives j (dev.opened old) (dev.time old) (dev.time new) journal section n t u held (did.moments t) owes;
     unsealed = λ t u held un. cut_unsealed seal size dev.Tells g pages gives j (dev.opened old) (dev.time old) (dev.time new) journal section n t u held (did.moments t) un;
     idle = λ short. did.idle (λ has. short (longer (j.sections.held section) has));
     entries = did.entries;
@@ -81,7 +81,7 @@ module _ {F S D : Type 0} {gs : _} (g : buffer.Ghosts (PageBlob S gs)) (gives : 
     floors = floors;
     alone = λ t. only_weaker (dev.time old) (dev.time new) (key_of j.sections section) (disk (dev.time old)) _ (λ b. Unit {0}) (λ x leaves. tt) (did.moments t);
     moments = λ t u held sealed. cut_sealing seal size dev.Tells g pages gives j (dev.opened old) (dev.time old) (dev.time new) journal section n t u held (did.moments t) sealed;
-    front = λ t u held is. cut_front seal size dev.Tells g pages gives j (dev.opened old) (dev.time old) (dev.time new) journal section n t u held (did.moments t) is;
+    prefix = λ t u held is. cut_prefix seal size dev.Tells g pages gives j (dev.opened old) (dev.time old) (dev.time new) journal section n t u held (did.moments t) is;
     unsealed = λ t u held un. cut_unsealed seal size dev.Tells g pages gives j (dev.opened old) (dev.time old) (dev.time new) journal section n t u held (did.moments t) un;
     idle = λ short. did.idle (λ has. short (longer (j.sections.held section) has));
     entries = did.entries;

@@ -21,10 +21,10 @@ use Rattle.section_manager.specs.declared.buffer.SectionBuffer as buffer
 use Rattle.section_manager.specs.declared.journal.Error.{Error}
 use Rattle.segments.specs.FixedBounds.{CuttingTail, CutsTail}
 use Rattle.segments.specs.FixedLists.{Lists, IsJournal}
-use Rattle.segments.proofs.cutting.CutLemmas.{settled_front}
+use Rattle.segments.proofs.cutting.CutLemmas.{settled_prefix}
 use Rattle.segments.proofs.cutting.RemoveLemmas.{same_number}
 use Rattle.segments.proofs.held.Sections.{is_held}
-use Rattle.segments.proofs.adding.WriteLemmas.{ArePages, IsFine, fine_of, journal_of, leaves_sealed, leaves_front, proven_back}
+use Rattle.segments.proofs.adding.WriteLemmas.{ArePages, IsFine, fine_of, journal_of, leaves_sealed, leaves_prefix, proven_back}
 use Rattle.blob_device.proofs.general.Options.{has_value, none_or_value, some_same, value_of}
 
 module _ {F S : Type 0} {gs : _} (seal : List ℕ → ℕ) (size : ℕ) (told : Type 0) (g : buffer.Ghosts (PageBlob S gs)) (pages : ArePages g seal) (gives : F → Setting)
@@ -42,9 +42,9 @@ module _ {F S : Type 0} {gs : _} (seal : List ℕ → ℕ) (size : ℕ) (told : 
   tail_moments t = always_weaker a b (Truncating g j.sections s n (disk a)) (CuttingTail seal j s n (disk a)) (λ d is. record {
     later = is.later;
     sealed = λ u held sealed. leaves_sealed seal g pages u (disk a key) (d key) (min (g.settled u) n) (min u.settled n) (ap (λ (m : ℕ). min m n) (pages.settled u)) sealed (is.cut u held);
-    front = λ u held owes. settled_front seal g pages u (disk a key) (d key) (min (g.settled u) n) n (journal.owes_settled.settled s u held owes) (ap (λ (m : ℕ). min m n) (pages.settled u)) (adopted u held) (is.cut u held);
+    prefix = λ u held owes. settled_prefix seal g pages u (disk a key) (d key) (min (g.settled u) n) n (journal.owes_settled.settled s u held owes) (ap (λ (m : ℕ). min m n) (pages.settled u)) (adopted u held) (is.cut u held);
     unsealed = λ u held un. (let all : length (sealed_prefix seal u.page_size (disk a key).content) ≤ u.settled = prefix_settled seal (shown u) (disk a key) (omega (arith, u.fit.begun)) un in
-        leaves_front seal g pages u (disk a key) (d key) (min (g.settled u) n) (min n (length (sealed_prefix seal u.page_size (disk a key).content))) (omega (arith, pages.settled u, all)) un (is.cut u held));
+        leaves_prefix seal g pages u (disk a key) (d key) (min (g.settled u) n) (min n (length (sealed_prefix seal u.page_size (disk a key).content))) (omega (arith, pages.settled u, all)) un (is.cut u held));
     last = elim is.last [ inl same ↦ inl same | inr (long, gone) ↦ inr (longer long, gone) ];
     others = is.others;
   })

@@ -56,8 +56,8 @@ module _ (seal : List ℕ → ℕ) (P : ℕ) where
       go (Some x) here = λ no. whole x (settled_content c x here.1)
 
   -- what adopting a blob finds begins with its sealed prefix
-  pub adopted_front : (c : List ℕ) (n : ℕ) → n ≤ length (sealed_prefix seal P c) → take n (adopted_bytes seal P c) ≡ take n (sealed_prefix seal P c)
-  adopted_front c n le =
+  pub adopted_prefix : (c : List ℕ) (n : ℕ) → n ≤ length (sealed_prefix seal P c) → take n (adopted_bytes seal P c) ≡ take n (sealed_prefix seal P c)
+  adopted_prefix c n le =
       let own = own_prefix seal P c in
       sym (ap (λ (l : List ℕ). take n l) own.is ∙ take-take n (length (sealed_prefix seal P c)) (adopted_bytes seal P c) le)
 
@@ -213,9 +213,9 @@ module _ {S : Type 0} {gs : _} (seal : List ℕ → ℕ) (P size : ℕ) (pos : 1
       cut_leaves longer =
           let u = value_of (j.sections.held last) (λ u. n < size_of (shown u)) longer in
           let long = cut_longer u.value u.is u.has in
-          let front = is.front u.value u.is ((owes last).1 (omega (arith, size_here j.sections last u.value u.is, u.has))) in
+          let prefix = is.prefix u.value u.is ((owes last).1 (omega (arith, size_here j.sections last u.value u.is, u.has))) in
           let paged = subst (λ (Q : ℕ). Leaves seal Q (sealed_prefix seal Q (disk b (key_of j.sections last)).content) (min n (length (sealed_prefix seal Q (disk b (key_of j.sections last)).content))) (d (key_of j.sections last)))
-          (page_of last u.value u.is) front in
+          (page_of last u.value u.is) prefix in
           let read = subst (λ (x : List ℕ). Leaves seal P (sealed_prefix seal P x) (min n (length (sealed_prefix seal P x))) (d (key_of j.sections last))) (content_same last) paged in
           let least : min n (length (sealed_prefix seal P (disk a (key_of j.sections last)).content)) ≡ n = omega (arith, n_within u.value u.is long) in
           subst (λ (m : ℕ). Leaves seal P (sealed_prefix seal P (disk a (key_of j.sections last)).content) m (d (key_of j.sections last))) (least ∙ n_bound u.value u.is long) read
@@ -369,7 +369,7 @@ module _ {S : Type 0} {gs : _} (seal : List ℕ → ℕ) (P size : ℕ) (pos : 1
           ∙ sym (laws.bytes v.0 (disk c (key_of j.sections last)).content)
           ∙ v.2.bytes t
           ∙ ap (λ (l : List ℕ). take n l) (laws.bytes w.0 (disk b (key_of j.sections last)).content ∙ sym (bytes_here j.sections last w.0 w.1 (disk b)) ∙ found_bytes last here)
-          ∙ adopted_front seal P (disk a (key_of j.sections last)).content n (n_within t w.0 w.1 longer)
+          ∙ adopted_prefix seal P (disk a (key_of j.sections last)).content n (n_within t w.0 w.1 longer)
           ∙ ap (λ (m : ℕ). take m (sealed_prefix seal P (disk a (key_of j.sections last)).content)) (n_bound t w.0 w.1 longer)
 
       -- the blob of a section that is not cut has its sealed prefix

@@ -39,8 +39,8 @@ use Rattle.blob_device.proofs.general.Numbers.{times_more, times_next}
 use Rattle.blob_device.proofs.general.Options.{some_of, some_there}
 
 -- what leaves a prefix of the first bytes of a list leaves one of the list
-leaves_front_on : (seal : List ℕ → ℕ) (P m least : ℕ) (bytes : List ℕ) (b : Blob) → m ≤ length bytes → Leaves seal P (take m bytes) least b → Leaves seal P bytes least b
-leaves_front_on seal P m least bytes b le leaves left may = go left (leaves left may)
+leaves_prefix_on : (seal : List ℕ → ℕ) (P m least : ℕ) (bytes : List ℕ) (b : Blob) → m ≤ length bytes → Leaves seal P (take m bytes) least b → Leaves seal P bytes least b
+leaves_prefix_on seal P m least bytes b le leaves left may = go left (leaves left may)
   where
     go : (l : Option (List ℕ)) → IsSomeAnd l (λ c. NoChanceSeal seal P (past b) c → Prefix seal P (take m bytes) least c) → IsSomeAnd l (λ c. NoChanceSeal seal P (past b) c → Prefix seal P bytes least c)
     go None has = has
@@ -217,7 +217,7 @@ module _ {S : Type 0} {gs : _} (seal : List ℕ → ℕ) (P size : ℕ) (pos : 1
           let least = subst (λ (m : ℕ). Leaves seal P (sealed_prefix seal P (mid (key_of j.sections s)).content) m b) (keeps_prefix s here).count paged_leaves in
           elim (sealed_as s here) [
             | inl uncut ↦ subst (λ (l : List ℕ). Leaves seal P l (bound s) b) uncut.0 least
-            | inr is ↦ leaves_front_on seal P (bound s) (bound s) (sealed_prefix seal P (from (key_of j.sections s)).content) b (bound_within s) (subst (λ (l : List ℕ). Leaves seal P l (bound s) b) is least)
+            | inr is ↦ leaves_prefix_on seal P (bound s) (bound s) (sealed_prefix seal P (from (key_of j.sections s)).content) b (bound_within s) (subst (λ (l : List ℕ). Leaves seal P l (bound s) b) is least)
           ]
 
       kept_still : (s : ℕ) → s ≤ last → (s < 2 ^ 64) × IsTrue (from (key_of j.sections s)).there → d (key_of j.sections s) ≡ mid (key_of j.sections s)

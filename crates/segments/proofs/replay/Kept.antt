@@ -23,8 +23,8 @@ use Rattle.sealed_pages.proofs.UnrecoveredLemmas.{adopted_backed, prefix_short}
 use Rattle.segments.specs.FixedItems.{item_at}
 use Rattle.blob_device.proofs.general.Numbers.{div_place, times_next}
 
-data_front : (P m n k : ℕ) (v : View) → k ≤ n → take k (data_from P v m n) ≡ data_from P v m k
-data_front P m n k v le = read_data P m k v (take k (data_from P v m n)) (omega (arith, length-take k (data_from P v m n), length-data_from P v n m, le))
+data_prefix : (P m n k : ℕ) (v : View) → k ≤ n → take k (data_from P v m n) ≡ data_from P v m k
+data_prefix P m n k v le = read_data P m k v (take k (data_from P v m n)) (omega (arith, length-take k (data_from P v m n), length-data_from P v n m, le))
     (λ i lt. get_or-take k (data_from P v m n) i 0 lt ∙ get_or-data_from P v n m i (omega (arith, lt, le)))
 
 -- bytes among data
@@ -74,13 +74,13 @@ module _ (seal : List ℕ → ℕ) (P : ℕ) (c : List ℕ) (pos : 1 ≤ P) wher
   pub prefix_data : sealed_prefix seal P c ≡ data_from P (view c) 0 (length (sealed_prefix seal P c))
   prefix_data =
       let own = own_prefix seal P c in
-      own.is ∙ data_front P 0 (adopted_size seal P c) (length (sealed_prefix seal P c)) (view c) (omega (arith, own.no_longer, length-data_from P (view c) (adopted_size seal P c) 0))
+      own.is ∙ data_prefix P 0 (adopted_size seal P c) (length (sealed_prefix seal P c)) (view c) (omega (arith, own.no_longer, length-data_from P (view c) (adopted_size seal P c) 0))
 
   -- the bytes at hand
   pub range_kept : (kept : List ℕ) → kept ≡ data_from P (view c) 0 (length kept) → (n at : ℕ) (bytes : List ℕ) → bytes ≡ data_from P (view c) at (length bytes) → n ≤ length bytes → at + length bytes ≤ length kept
       → take n bytes ≡ take n (drop at kept)
   range_kept kept stands n at bytes is has fits =
-      ap (take n) is ∙ data_front P at (length bytes) n (view c) has
+      ap (take n) is ∙ data_prefix P at (length bytes) n (view c) has
       ∙ sym (range_data P at n (length kept) (view c) (omega (arith, has, fits)))
       ∙ ap (λ (l : List ℕ). take n (drop at l)) (sym stands)
 

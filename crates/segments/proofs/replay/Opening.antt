@@ -35,7 +35,7 @@ use Rattle.segments.proofs.replay.Reading.{here}
 use Rattle.segments.proofs.replay.ErrorSteps.{failed_other, failed_sound, failed_not_codec}
 use Rattle.segments.specs.lemmas.FixedOwed.{same_items}
 use Rattle.segments.proofs.replay.Steps.{Called, call_failed, call_passed}
-use Rattle.segments.proofs.replay.Walks.{IsBehind, IsReached, MayCut, MayFlush, MayFront, key_new, first_same, held_back, held_on, kept_other, later_one}
+use Rattle.segments.proofs.replay.Walks.{IsBehind, IsReached, MayCut, MayFlush, MayPrefix, key_new, first_same, held_back, held_on, kept_other, later_one}
 use Rattle.segments.proofs.replay.WalksOn.{IsKnownAgain, replaying_start, replaying_here, moments_of}
 use Rattle.blob_device.proofs.general.Options.{none_in, same_some, some_of, some_there, the_some}
 
@@ -152,12 +152,12 @@ module _ {F S : Type 0} {gs : _} (seal : List ℕ → ℕ) (size : ℕ) (g : buf
           | inl sealed ↦ moments_of seal size w (disk a) s small numbers reached a b (MayFlush seal u (disk a key)) refl (moments t sealed)
               (λ x leaves. replaying_here seal size w (disk a) s small numbers reached x
               (λ y is free2 sealed2. of_held (λ (z : PageBlob S gs). MayFlush seal z (disk a key) x) leaves y is)
-              (λ y is free2. of_held (λ (z : PageBlob S gs). IsUnrecovered seal (shown z) (disk a key) → MayFront seal z (disk a key) x) (λ un. absurd (not_both seal (shown u) (disk a key) sealed un)) y is)
+              (λ y is free2. of_held (λ (z : PageBlob S gs). IsUnrecovered seal (shown z) (disk a key) → MayPrefix seal z (disk a key) x) (λ un. absurd (not_both seal (shown u) (disk a key) sealed un)) y is)
               (λ y is. not_owed free) (λ y is rest. absurd (not_still y is rest.0 more)))
           | inr un ↦ moments_of seal size w (disk a) s small numbers reached a b (HasPrefix seal u.page_size (sealed_prefix seal u.page_size (disk a key).content)) refl (steady t un)
               (λ x has. replaying_here seal size w (disk a) s small numbers reached x
               (λ y is free2. of_held (λ (z : PageBlob S gs). IsSealed seal (shown z) (disk a key) → MayFlush seal z (disk a key) x) (λ sealed. absurd (not_both seal (shown u) (disk a key) sealed un)) y is)
-              (λ y is free2 un2. of_held (λ (z : PageBlob S gs). MayFront seal z (disk a key) x)
+              (λ y is free2 un2. of_held (λ (z : PageBlob S gs). MayPrefix seal z (disk a key) x)
               (prefix_leaves seal u.page_size (sealed_prefix seal u.page_size (disk a key).content) (length (sealed_prefix seal u.page_size (disk a key).content)) x (omega arith) has) y is)
               (λ y is. not_owed free) (λ y is rest. absurd (not_still y is rest.0 more)))
         ]
@@ -269,8 +269,8 @@ module _ {F S : Type 0} {gs : _} (seal : List ℕ → ℕ) (size : ℕ) (g : buf
       later t = later_one seal size s w new (disk a) (disk b) called.one t reached onward v held_new
           (λ y is free. subst (λ (z : PageBlob S gs). IsSealed seal (shown z) (disk a key) → IsSealed seal (shown v) (disk b key) × ((x : Blob) → MayFlush seal v (disk b key) x → MayFlush seal z (disk a key) x))
           (sym (same_some (w.journal.sections.held s) u y held is)) (λ is_sealed. (flush.sealed t is_sealed, flushed_leaves)))
-          (λ y is free. subst (λ (z : PageBlob S gs). IsUnrecovered seal (shown z) (disk a key) → IsUnrecovered seal (shown v) (disk b key) × ((x : Blob) → MayFront seal v (disk b key) x → MayFront seal z (disk a key) x))
-          (sym (same_some (w.journal.sections.held s) u y held is)) (λ un. ((flush.unsealed t un).0, front_leaves (flush.unsealed t un).1)))
+          (λ y is free. subst (λ (z : PageBlob S gs). IsUnrecovered seal (shown z) (disk a key) → IsUnrecovered seal (shown v) (disk b key) × ((x : Blob) → MayPrefix seal v (disk b key) x → MayPrefix seal z (disk a key) x))
+          (sym (same_some (w.journal.sections.held s) u y held is)) (λ un. ((flush.unsealed t un).0, same_leaves (flush.unsealed t un).1)))
           (λ y is owes x may. subst (λ (z : PageBlob S gs). MayCut seal size z (w.journal.floor_of s) (disk a key) x) (sym (same_some (w.journal.sections.held s) u y held is)) (cut_leaves owes x may))
           (λ y is rest. stays (subst (λ (z : PageBlob S gs). StaysStill seal size (w.journal.unrecovered s) z (disk a key)) (same_some (w.journal.sections.held s) u y held is) rest))
         where
@@ -290,8 +290,8 @@ module _ {F S : Type 0} {gs : _} (seal : List ℕ → ℕ) (size : ℕ) (g : buf
                 blob,
               )
 
-          front_leaves : sealed_prefix seal u.page_size (disk b key).content ≡ sealed_prefix seal u.page_size (disk a key).content → (x : Blob) → MayFront seal v (disk b key) x → MayFront seal u (disk a key) x
-          front_leaves same x left =
+          same_leaves : sealed_prefix seal u.page_size (disk b key).content ≡ sealed_prefix seal u.page_size (disk a key).content → (x : Blob) → MayPrefix seal v (disk b key) x → MayPrefix seal u (disk a key) x
+          same_leaves same x left =
               let c = (disk b key).content in
               let paged : Leaves seal u.page_size (sealed_prefix seal u.page_size c) (length (sealed_prefix seal u.page_size c)) x =
               subst (λ (P : ℕ). Leaves seal P (sealed_prefix seal P c) (length (sealed_prefix seal P c)) x) flush.page_size left in

@@ -241,7 +241,7 @@ module _ {F S : Type 0} {gs : _} (seal : List ℕ → ℕ) (size : ℕ) (g : buf
     )
 
     replaying_read : (d : Disk) (q : Key) (x : Blob) → Replaying seal size (standing w more_at) d q x → Replaying seal size (standing w r) d q x
-    replaying_read d q x is = record { flushed = is.flushed; front = is.front; cut = is.cut; still = is.still; others = λ never. is.others (λ k. never (k.0, k.1, k.2)) }
+    replaying_read d q x is = record { flushed = is.flushed; prefix = is.prefix; cut = is.cut; still = is.still; others = λ never. is.others (λ k. never (k.0, k.1, k.2)) }
 
     -- What a step from there on does, it does from here on.
     pub steps_read : {V : Type 0} (spelling : V → List ℕ) (accepted : V → Unit {0} → Type 0) (refusal : List ℕ → Unit {0} → Option codec.Error) (result : Result (Option (ℕ × ℕ × V)) Error) (new : Walk F (PageBlob S gs)) (last : OpenedList) (c : Timeline) (few some many : ℕ)
@@ -436,7 +436,7 @@ module _ {F S : Type 0} {gs : _} (seal : List ℕ → ℕ) (size : ℕ) (g : buf
             bytes = λ u held free. same_bytes told u h.0 (disk now (key_of w.journal.sections r.section)) (disk now (key_of w.journal.sections r.section)) (same_some (w.journal.sections.held r.section) u h.0 held h.1) (λ t. refl);
             cut = λ u held. same_or_cut (w.journal.floor_of r.section) u h.0 (same_some (w.journal.sections.held r.section) u h.0 held h.1);
             items = λ t u held owed. same_items seal u.page_size size (disk now (key_of w.journal.sections r.section)) (disk now (key_of w.journal.sections r.section)) refl;
-            later = λ t q x is. record { flushed = is.flushed; front = is.front; cut = is.cut; still = is.still; others = λ never. is.others (λ k. absurd_near never k.0 k.1.0 k.1.1 k.2) };
+            later = λ t q x is. record { flushed = is.flushed; prefix = is.prefix; cut = is.cut; still = is.still; others = λ never. is.others (λ k. absurd_near never k.0 k.1.0 k.1.1 k.2) };
           }
         where
           absurd_near : {q : Key} → (IsKeyOf w.journal.sections (λ s. IsHeld w.journal.sections s × (IsAhead w s ⊎ IsIn (standing w r) s)) q → ⊥) → (s : ℕ) → IsHeld w.journal.sections s → IsAhead w s ⊎ IsIn w s → q ≡ key_of w.journal.sections s → ⊥
@@ -549,7 +549,7 @@ module _ {F S : Type 0} {gs : _} (seal : List ℕ → ℕ) (size : ℕ) (g : buf
       }
 
       later_item : LeavesNoMore seal size (standing w r) (standing w (after_item size r)) (disk now) (disk now)
-      later_item q x is = record { flushed = is.flushed; front = is.front; cut = is.cut; still = is.still; others = λ never. is.others (λ k. never (k.0, k.1, k.2)) }
+      later_item q x is = record { flushed = is.flushed; prefix = is.prefix; cut = is.cut; still = is.still; others = λ never. is.others (λ k. never (k.0, k.1, k.2)) }
 
       left_item : w.ended ≡ false → first_of w r.section ≤ r.position → told → IsLeft seal size (standing w r) (disk now) r.section r.position
       left_item going first t = record { goes_on = going; begun = first; whole = whole_item t; ahead = inr (refl, omega arith) }

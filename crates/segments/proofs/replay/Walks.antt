@@ -38,8 +38,8 @@ abbrev pub MayFlush : {S : Type 0} {gs : _} → (List ℕ → ℕ) → PageBlob 
 MayFlush seal u from b = Leaves seal u.page_size (bytes_of (shown u) from.content) u.settled b
 
 -- And of one that is not all of its sealed prefix.
-abbrev pub MayFront : {S : Type 0} {gs : _} → (List ℕ → ℕ) → PageBlob S gs → Blob → Blob → Type 0
-MayFront seal u from b = Leaves seal u.page_size (sealed_prefix seal u.page_size from.content) (length (sealed_prefix seal u.page_size from.content)) b
+abbrev pub MayPrefix : {S : Type 0} {gs : _} → (List ℕ → ℕ) → PageBlob S gs → Blob → Blob → Type 0
+MayPrefix seal u from b = Leaves seal u.page_size (sealed_prefix seal u.page_size from.content) (length (sealed_prefix seal u.page_size from.content)) b
 
 module _ {F S : Type 0} {gs : _} (seal : List ℕ → ℕ) (size : ℕ) where
   -- Nothing changed but the section s and its blob.
@@ -162,14 +162,14 @@ module _ {F S : Type 0} {gs : _} (seal : List ℕ → ℕ) (size : ℕ) where
         → ((u : PageBlob S gs) → old.journal.sections.held s ≡ Some u → old.journal.unrecovered s ≡ false → IsSealed seal (shown u) (d (key_of old.journal.sections s))
         → IsSealed seal (shown v) (e (key_of old.journal.sections s)) × ((b : Blob) → MayFlush seal v (e (key_of old.journal.sections s)) b → MayFlush seal u (d (key_of old.journal.sections s)) b))
         → ((u : PageBlob S gs) → old.journal.sections.held s ≡ Some u → old.journal.unrecovered s ≡ false → IsUnrecovered seal (shown u) (d (key_of old.journal.sections s))
-        → IsUnrecovered seal (shown v) (e (key_of old.journal.sections s)) × ((b : Blob) → MayFront seal v (e (key_of old.journal.sections s)) b → MayFront seal u (d (key_of old.journal.sections s)) b))
+        → IsUnrecovered seal (shown v) (e (key_of old.journal.sections s)) × ((b : Blob) → MayPrefix seal v (e (key_of old.journal.sections s)) b → MayPrefix seal u (d (key_of old.journal.sections s)) b))
         → ((u : PageBlob S gs) → old.journal.sections.held s ≡ Some u → IsTrue (old.journal.unrecovered s) → (b : Blob) → MayCut seal size v (old.journal.floor_of s) (e (key_of old.journal.sections s)) b → MayCut seal size u (old.journal.floor_of s) (d (key_of old.journal.sections s)) b)
         → ((u : PageBlob S gs) → old.journal.sections.held s ≡ Some u → StaysStill seal size (old.journal.unrecovered s) u (d (key_of old.journal.sections s))
         → StaysStill seal size (old.journal.unrecovered s) v (e (key_of old.journal.sections s)) × (e (key_of old.journal.sections s) ≡ d (key_of old.journal.sections s)))
         → (q : Key) (b : Blob) → Replaying seal size new e q b → Replaying seal size old d q b
-    later_one tells reached onward v held flush front cuts stays q b rep = record {
+    later_one tells reached onward v held flush prefix cuts stays q b rep = record {
       flushed = may_still (λ u x. IsSealed seal (shown u) x) (MayFlush seal) flush rep.flushed;
-      front = may_still (λ u x. IsUnrecovered seal (shown u) x) (MayFront seal) front rep.front;
+      prefix = may_still (λ u x. IsUnrecovered seal (shown u) x) (MayPrefix seal) prefix rep.prefix;
       cut = cut;
       still = still;
       others = others;

@@ -21,7 +21,7 @@ use Rattle.section_manager.specs.lemmas.Keys.{key_injective}
 use Rattle.segments.specs.FixedLists.{IsProven}
 use Rattle.segments.specs.FixedReplay.{Place, Walk, IsAhead, IsIn, IsReadWhole, SameWalk, StandsIn, ReadsIn, IsGoneOver, HasWalk, WalksOver, IsWalk, StaysStill, Replaying}
 use Rattle.segments.specs.FixedStepping.{failing}
-use Rattle.segments.proofs.replay.Walks.{OnlyOne, IsBehind, IsReached, MayCut, MayFlush, MayFront, blob_other, held_on, reads_back}
+use Rattle.segments.proofs.replay.Walks.{OnlyOne, IsBehind, IsReached, MayCut, MayFlush, MayPrefix, blob_other, held_on, reads_back}
 use Rattle.segments.proofs.adding.WriteLemmas.{proven_back}
 use Rattle.blob_device.proofs.general.Options.{none_in, same_some, some_there}
 
@@ -31,7 +31,7 @@ module _ {F S : Type 0} {gs : _} (seal : List ℕ → ℕ) (size : ℕ) where
     pub replaying_start : (q : Key) → Replaying seal size old d q (d q)
     replaying_start q = record {
       flushed = λ t u is free sealed here. holds_leaves seal (shown u) (bytes_of (shown u) (d q).content) (d q) u.fit.begun sealed.holds;
-      front = λ t u is free un here. (let kept = sealed_prefix seal u.page_size (d q).content in
+      prefix = λ t u is free un here. (let kept = sealed_prefix seal u.page_size (d q).content in
           prefix_leaves seal u.page_size kept (length kept) (d q) (omega arith) (unrecovered_prefix seal (shown u) (d q) (omega (arith, u.fit.begun)) un).0);
       cut = λ t u is owed here. inl refl;
       still = λ t u is rest here. refl;
@@ -42,15 +42,15 @@ module _ {F S : Type 0} {gs : _} (seal : List ℕ → ℕ) (size : ℕ) where
       -- the blob of the section that changes
       pub replaying_here : (b : Blob)
           → ((u : PageBlob S gs) → old.journal.sections.held s ≡ Some u → old.journal.unrecovered s ≡ false → IsSealed seal (shown u) (d (key_of old.journal.sections s)) → MayFlush seal u (d (key_of old.journal.sections s)) b)
-          → ((u : PageBlob S gs) → old.journal.sections.held s ≡ Some u → old.journal.unrecovered s ≡ false → IsUnrecovered seal (shown u) (d (key_of old.journal.sections s)) → MayFront seal u (d (key_of old.journal.sections s)) b)
+          → ((u : PageBlob S gs) → old.journal.sections.held s ≡ Some u → old.journal.unrecovered s ≡ false → IsUnrecovered seal (shown u) (d (key_of old.journal.sections s)) → MayPrefix seal u (d (key_of old.journal.sections s)) b)
           → ((u : PageBlob S gs) → old.journal.sections.held s ≡ Some u → IsTrue (old.journal.unrecovered s) → MayCut seal size u (old.journal.floor_of s) (d (key_of old.journal.sections s)) b)
           → ((u : PageBlob S gs) → old.journal.sections.held s ≡ Some u → StaysStill seal size (old.journal.unrecovered s) u (d (key_of old.journal.sections s)) → b ≡ d (key_of old.journal.sections s))
           → Replaying seal size old d (key_of old.journal.sections s) b
-      replaying_here b flush front cuts stays = record {
+      replaying_here b flush prefix cuts stays = record {
         flushed = λ t u is free sealed here. (let at = number t u is here in
             flush u (subst (λ (k : ℕ). old.journal.sections.held k ≡ Some u) at is) (subst (λ (k : ℕ). old.journal.unrecovered k ≡ false) at free) sealed);
-        front = λ t u is free un here. (let at = number t u is here in
-            front u (subst (λ (k : ℕ). old.journal.sections.held k ≡ Some u) at is) (subst (λ (k : ℕ). old.journal.unrecovered k ≡ false) at free) un);
+        prefix = λ t u is free un here. (let at = number t u is here in
+            prefix u (subst (λ (k : ℕ). old.journal.sections.held k ≡ Some u) at is) (subst (λ (k : ℕ). old.journal.unrecovered k ≡ false) at free) un);
         cut = λ t u is owed here. (let at = number t u is here in
             subst (λ (k : ℕ). MayCut seal size u (old.journal.floor_of k) (d (key_of old.journal.sections s)) b) (sym at)
             (cuts u (subst (λ (k : ℕ). old.journal.sections.held k ≡ Some u) at is) (subst (λ (k : ℕ). IsTrue (old.journal.unrecovered k)) at owed)));

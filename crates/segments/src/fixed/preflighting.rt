@@ -139,7 +139,7 @@ fn check_reached<S: Seal>(
 }
 
 impl<A: CodecFixed, S: Seal> Journal<A, S> {
-    ghost use Rattle.segments.specs.FixedFloors.{shown, journal_of};
+    ghost use Rattle.segments.specs.FixedFloors.{preflight_shown, journal_of};
     ghost use Rattle.segments.specs.FixedPreflight.{ChecksFloors};
     ghost use Rattle.segments.specs.FixedShown as journal;
     ghost use Rattle.segments.specs.FixedLists.{IsJournal, section_bytes};
@@ -170,7 +170,7 @@ impl<A: CodecFixed, S: Seal> Journal<A, S> {
             ⟦<PageBlob<S> as SectionBuffer>⟧ ⟦<AppendFactory<S> as BufferFactory>⟧.gives
             S.seal_of A.SIZE A.spelling A.accepted A.refusal (string_bytes cfg.now.partition)
             cfg.now.pages cfg.now.write_buffer ceiling (tree.get nat_cmp floors.now)
-            D.Device shown journal_of result dev.old dev.new }
+            D.Device preflight_shown journal_of result dev.old dev.new }
     {
         // Opened before a marker is checked: the check reads by the buffers, and writes nothing.
         let journal = Journal::init_bounded(alloc, dev, cfg, ceiling)?;
@@ -188,15 +188,15 @@ impl<A: CodecFixed, S: Seal> Preflight<A, S> {
     ghost use Rattle.section_manager.specs.Answers.{seen};
     ghost use Rattle.segments.specs.FixedCheckpoint.{Finishes, IsReady};
     ghost use Rattle.segments.specs.FixedChecks.{AreCheckable, ChecksMarker, LooksBelow, ReadsLast, TakesFloor};
-    ghost use Rattle.segments.specs.FixedFloors.{shown, journal_of, IsAdoptedOver};
+    ghost use Rattle.segments.specs.FixedFloors.{preflight_shown, journal_of, IsAdoptedOver};
     ghost use Rattle.segments.specs.FixedShown as journal;
 
     // No section has a marker yet.
     pub(super) fn unchecked(alloc: Global, opened: Journal<A, S>) -> Self
         requires { (s : ℕ) → (journal.shown opened).floor_of s ≡ 0 }
         ensures journal { journal_of result ≡ journal.shown opened }
-        ensures boundaries { (s : ℕ) → (shown result).boundary_of s ≡ None }
-        ensures target { (shown result).target ≡ None }
+        ensures boundaries { (s : ℕ) → (preflight_shown result).boundary_of s ≡ None }
+        ensures target { (preflight_shown result).target ≡ None }
     {
         Preflight {
             journal: opened,
@@ -230,13 +230,13 @@ impl<A: CodecFixed, S: Seal> Preflight<A, S> {
         section: u64,
         items: u64,
     ) -> Result<Self, Error>
-        requires bounded { section ≤ (shown self).ceiling }
+        requires bounded { section ≤ (preflight_shown self).ceiling }
         requires ready { AreCheckable ⟦<PageBlob<S> as SectionBuffer>⟧
             ⟦<AppendFactory<S> as BufferFactory>⟧.gives S.seal_of D.Tells
             (journal_of self).sections (D.opened dev.old) (disk (D.time dev.old)) }
-        ensures { ChecksMarker shown (λ r. (journal_of r).sections) (shown self).floor_of
-            (shown self).boundary_of (shown self).target (journal_of self).sections section
-            S.seal_of (shown self).pages.page_size A.SIZE (shown self).partition A.spelling A.accepted A.refusal D.Device
+        ensures { ChecksMarker preflight_shown (λ r. (journal_of r).sections) (preflight_shown self).floor_of
+            (preflight_shown self).boundary_of (preflight_shown self).target (journal_of self).sections section
+            S.seal_of (preflight_shown self).pages.page_size A.SIZE (preflight_shown self).partition A.spelling A.accepted A.refusal D.Device
             ⟦<PageBlob<S> as SectionBuffer>⟧ ⟦<AppendFactory<S> as BufferFactory>⟧.gives
             items dev.old dev.new result }
     {
@@ -258,9 +258,9 @@ impl<A: CodecFixed, S: Seal> Preflight<A, S> {
     // Takes the floor of a section in, and its last item below it.
     pub(super) fn with_floor(self, section: u64, floor: u64, item: Option<A>) -> Result<Self, Error>
         requires whole { floor % A.SIZE ≡ 0 }
-        requires bounded { section ≤ (shown self).ceiling }
-        ensures { TakesFloor shown (λ r. (journal_of r).sections) (shown self).floor_of
-            (shown self).boundary_of (shown self).target (journal_of self).sections section floor
+        requires bounded { section ≤ (preflight_shown self).ceiling }
+        ensures { TakesFloor preflight_shown (λ r. (journal_of r).sections) (preflight_shown self).floor_of
+            (preflight_shown self).boundary_of (preflight_shown self).target (journal_of self).sections section floor
             item result }
     {
         let mut this = self;
@@ -356,14 +356,14 @@ impl<A: CodecFixed, S: Seal> Preflight<A, S> {
     // The sections with more bytes than their floor owe a replay. It refuses the first one with fewer.
     pub(super) fn owing_longer(self) -> Result<Self, Error>
         requires floor { (journal_of self).sections.floor ≡ 0 }
-        ensures same { IfOk result (λ r. shown r ≡ shown self) }
+        ensures same { IfOk result (λ r. preflight_shown r ≡ preflight_shown self) }
         ensures sections { IfOk result (λ r. (journal_of r).sections ≡ (journal_of self).sections) }
         ensures unrecovered { IfOk result (λ r. (s : ℕ) → IsTrue ((journal_of r).unrecovered s)
-            ↔ ((shown r).floor_of s < section_size (journal_of r).sections s)) }
-        ensures reached { IfOk result (λ r. (s : ℕ) → (shown r).floor_of s
+            ↔ ((preflight_shown r).floor_of s < section_size (journal_of r).sections s)) }
+        ensures reached { IfOk result (λ r. (s : ℕ) → (preflight_shown r).floor_of s
             ≤ section_size (journal_of r).sections s) }
         ensures damage { (x : _) → IsErrOf result (Error.Corruption x)
-            → section_size (journal_of self).sections x.section < (shown self).floor_of x.section }
+            → section_size (journal_of self).sections x.section < (preflight_shown self).floor_of x.section }
         ensures cause { OnErr result (((x : _) × IsErrOf result (Error.Corruption x))
             ⊎ IsErrOf result Error.Mem) }
     {
@@ -379,7 +379,7 @@ impl<A: CodecFixed, S: Seal> Preflight<A, S> {
     pub fn boundaries(&self) -> BoundaryIter<'_, A>
         ensures ascending { IsStrictlySortedBy nat_cmp (map (λ p. p.0) result) }
         ensures each { (s : ℕ) (o : Option A) → Contains result (s, o)
-            ↔ ((shown self.now).boundary_of s ≡ Some o) }
+            ↔ ((preflight_shown self.now).boundary_of s ≡ Some o) }
     {
         BoundaryIter {
             inner: self.boundaries.iter(),
@@ -390,12 +390,12 @@ impl<A: CodecFixed, S: Seal> Preflight<A, S> {
     /// the device. Where a checkpoint was, it removes the later sections, the newest first, and then cuts
     /// the checkpoint's, durably; no section owes a replay then.
     pub fn finish<D: Device>(self, dev: &mut D) -> Result<Journal<A, S>, Error>
-        requires { (t : _) → (shown self).target ≡ Some t
+        requires { (t : _) → (preflight_shown self).target ≡ Some t
             → IsReady ⟦<PageBlob<S> as SectionBuffer>⟧ ⟦<AppendFactory<S> as BufferFactory>⟧.gives
             S.seal_of A.SIZE D.Tells (journal_of self) t (D.opened dev.old) (disk (D.time dev.old)) }
         ensures { Finishes ⟦<PageBlob<S> as SectionBuffer>⟧
             ⟦<AppendFactory<S> as BufferFactory>⟧.gives S.seal_of A.SIZE D.Device (journal_of self)
-            (seen journal.shown result) dev.old dev.new (shown self).target }
+            (seen journal.shown result) dev.old dev.new (preflight_shown self).target }
     {
         let Preflight {
             journal,

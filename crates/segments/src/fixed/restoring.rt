@@ -71,7 +71,7 @@ impl<A: CodecFixed, S: Seal> Journal<A, S> {
         ensures { Checks S.seal_of cfg.now.pages.page_size A.SIZE (string_bytes cfg.now.partition)
             section size A.spelling A.accepted A.refusal D.Device result dev.old dev.new
             (λ r. Found S.seal_of cfg.now.pages.page_size A.SIZE (string_bytes cfg.now.partition)
-            section size A.spelling A.accepted D.Tells (floors.shown r) (disk (D.time dev.old))
+            section size A.spelling A.accepted D.Tells (floors.preflight_shown r) (disk (D.time dev.old))
             × IsOpenedFor S.seal_of cfg.now.pages.page_size A.SIZE (string_bytes cfg.now.partition)
             section size A.spelling A.accepted ⟦<PageBlob<S> as SectionBuffer>⟧
             ⟦<AppendFactory<S> as BufferFactory>⟧.gives D.Tells cfg.now.pages cfg.now.write_buffer
@@ -111,9 +111,9 @@ impl<A: CodecFixed, S: Seal> Preflight<A, S> {
         requires ready { AreCheckable ⟦<PageBlob<S> as SectionBuffer>⟧
             ⟦<AppendFactory<S> as BufferFactory>⟧.gives S.seal_of D.Tells
             (floors.journal_of self).sections (D.opened dev.old) (disk (D.time dev.old)) }
-        requires bounded { section ≤ (floors.shown self).ceiling }
-        requires fresh { (s : ℕ) → ((floors.shown self).boundary_of s ≡ None)
-            × ((floors.shown self).floor_of s ≡ 0) }
+        requires bounded { section ≤ (floors.preflight_shown self).ceiling }
+        requires fresh { (s : ℕ) → ((floors.preflight_shown self).boundary_of s ≡ None)
+            × ((floors.preflight_shown self).floor_of s ≡ 0) }
         ensures { (bytes : ℕ) → Looks S.seal_of (floors.journal_of
             self).sections.factory.pages.page_size A.SIZE
             (floors.journal_of self).sections.partition section bytes A.spelling A.accepted
@@ -122,7 +122,7 @@ impl<A: CodecFixed, S: Seal> Preflight<A, S> {
             (λ r. HasCome S.seal_of (floors.journal_of self).sections.factory.pages.page_size A.SIZE
             (floors.journal_of self).sections.partition section bytes A.spelling A.accepted
             (λ s. s < section) D.Tells (floors.journal_of self).sections
-            (floors.journal_of r).sections (floors.shown r) (disk (D.time dev.old))) }
+            (floors.journal_of r).sections (floors.preflight_shown r) (disk (D.time dev.old))) }
     {
         let numbers = self.journal.manager.numbers()?;
         let mut found = self;
@@ -145,7 +145,7 @@ impl<A: CodecFixed, S: Seal> Preflight<A, S> {
             → HasCome S.seal_of (floors.journal_of self).sections.factory.pages.page_size A.SIZE
             (floors.journal_of self).sections.partition at bytes A.spelling A.accepted
             (λ s. Contains done s × (s < at)) D.Tells (floors.journal_of self).sections
-            (floors.journal_of self).sections (floors.shown self) (disk (D.time dev.old))
+            (floors.journal_of self).sections (floors.preflight_shown self) (disk (D.time dev.old))
             → Looks S.seal_of (floors.journal_of self).sections.factory.pages.page_size A.SIZE
             (floors.journal_of self).sections.partition at bytes A.spelling A.accepted A.refusal
             D.Device result dev.old dev.new ⟦<PageBlob<S> as SectionBuffer>⟧
@@ -153,7 +153,7 @@ impl<A: CodecFixed, S: Seal> Preflight<A, S> {
             (λ r. HasCome S.seal_of (floors.journal_of self).sections.factory.pages.page_size A.SIZE
             (floors.journal_of self).sections.partition at bytes A.spelling A.accepted
             (λ s. Contains (done ++ section ∷ []) s × (s < at)) D.Tells
-            (floors.journal_of self).sections (floors.journal_of r).sections (floors.shown r)
+            (floors.journal_of self).sections (floors.journal_of r).sections (floors.preflight_shown r)
             (disk (D.time dev.old))) }
     {
         let size = self.journal.manager.size(section)?;
@@ -167,13 +167,13 @@ impl<A: CodecFixed, S: Seal> Preflight<A, S> {
         requires ready { AreCheckable ⟦<PageBlob<S> as SectionBuffer>⟧
             ⟦<AppendFactory<S> as BufferFactory>⟧.gives S.seal_of D.Tells
             (floors.journal_of self).sections (D.opened dev.old) (disk (D.time dev.old)) }
-        requires bounded { section ≤ (floors.shown self).ceiling }
+        requires bounded { section ≤ (floors.preflight_shown self).ceiling }
         requires whole { size % A.SIZE ≡ 0 }
         requires earlier { HasCome S.seal_of (floors.journal_of
             self).sections.factory.pages.page_size A.SIZE
             (floors.journal_of self).sections.partition section size A.spelling A.accepted
             (λ s. s < section) D.Tells (floors.journal_of self).sections
-            (floors.journal_of self).sections (floors.shown self) (disk (D.time dev.old)) }
+            (floors.journal_of self).sections (floors.preflight_shown self) (disk (D.time dev.old)) }
         ensures { Looks S.seal_of (floors.journal_of self).sections.factory.pages.page_size A.SIZE
             (floors.journal_of self).sections.partition section size A.spelling A.accepted A.refusal
             D.Device result dev.old dev.new ⟦<PageBlob<S> as SectionBuffer>⟧
@@ -181,9 +181,9 @@ impl<A: CodecFixed, S: Seal> Preflight<A, S> {
             (λ r. HasCome S.seal_of (floors.journal_of self).sections.factory.pages.page_size A.SIZE
             (floors.journal_of self).sections.partition section size A.spelling A.accepted
             (λ s. s ≤ section) D.Tells (floors.journal_of self).sections
-            (floors.journal_of r).sections (floors.shown r) (disk (D.time dev.old))
-            × ((floors.shown r).floor_of section ≡ size)
-            × IsSomeAnd (floors.shown r).target (λ t. (t.section ≡ section) × (t.size ≡ size))) }
+            (floors.journal_of r).sections (floors.preflight_shown r) (disk (D.time dev.old))
+            × ((floors.preflight_shown r).floor_of section ≡ size)
+            × IsSomeAnd (floors.preflight_shown r).target (λ t. (t.section ≡ section) × (t.size ≡ size))) }
     {
         let mut this = self;
         this.target = Some(Target { section, size });

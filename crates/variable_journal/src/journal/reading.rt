@@ -20,14 +20,14 @@ const LONGEST: usize = 5;
 
 // The length of the frame that begins with these bytes, and how many bytes it takes; none where they are cut
 // short. They are five, or all that are left.
-fn length_of(front: &[u8]) -> Result<Option<(u32, usize)>, Error>
-    ensures { (rest : List ℕ) → (length front.now < 5 → rest ≡ [])
-        → Measures (length front.now) (front.now ++ rest) result }
+fn length_of(prefix: &[u8]) -> Result<Option<(u32, usize)>, Error>
+    ensures { (rest : List ℕ) → (length prefix.now < 5 → rest ≡ [])
+        → Measures (length prefix.now) (prefix.now ++ rest) result }
 {
-    match read_varint32(front) {
+    match read_varint32(prefix) {
         Ok(found) => Ok(Some(found)),
         // So few bytes may be the beginning of any length.
-        Err(_) if front.len() < LONGEST => Ok(None),
+        Err(_) if prefix.len() < LONGEST => Ok(None),
         Err(e) => Err(Error::from(e)),
     }
 }
@@ -71,10 +71,10 @@ impl<V: Codec, S: Seal> Journal<V, S> {
             return Err(Error::ItemOutOfRange(offset));
         }
         let count = left.min(LONGEST as u64) as usize;
-        let mut front = [0; LONGEST];
-        let front = &mut front[..count];
-        buffer.read_at(dev, offset, front)?;
-        let Some((size, header)) = length_of(front)? else {
+        let mut prefix = [0; LONGEST];
+        let prefix = &mut prefix[..count];
+        buffer.read_at(dev, offset, prefix)?;
+        let Some((size, header)) = length_of(prefix)? else {
             return Err(Error::ItemOutOfRange(offset));
         };
         if header as u64 + u64::from(size) > left {

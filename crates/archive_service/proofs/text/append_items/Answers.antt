@@ -9,11 +9,11 @@ use Rattle.archive_service.proofs.text.append_items.Goals as goal
 -- one number more
 pub loop-number-preserved : goal.loop-number-preserved
 loop-number-preserved c =
-    let front = c.extend_from_slice.new.self.items in
+    let prefix = c.extend_from_slice.new.self.items in
     let number = get_or c.args.numbers.now c.loop-number.number-index 0 in
     let before = take c.loop-number.number-index c.args.numbers.now in
-    word_more decimal front c.loop-number.out.items c.append_with.new.out.items before number c.loop-number.invariant c.in_ok-append_with.ensures
-    ∙ ap (λ l. front ++ words_text decimal l) (sym (take_more c.args.numbers.now c.loop-number.number-index 0 c.loop-number-test.true))
+    word_more decimal prefix c.loop-number.out.items c.append_with.new.out.items before number c.loop-number.invariant c.in_ok-append_with.ensures
+    ∙ ap (λ l. prefix ++ words_text decimal l) (sym (take_more c.args.numbers.now c.loop-number.number-index 0 c.loop-number-test.true))
 
 -- no memory for a number
 pub returns-in_err-append_with : goal.returns-in_err-append_with

@@ -9,12 +9,12 @@ use Rattle.archive_service.proofs.text.append_ranges.Goals as goal
 -- one run more
 pub loop-first-preserved : goal.loop-first-preserved
 loop-first-preserved c =
-    let front = c.extend_from_slice.new.self.items in
+    let prefix = c.extend_from_slice.new.self.items in
     let run = get_or c.args.runs.now c.loop-first.first-index (0, 0) in
     let before = take c.loop-first.first-index c.args.runs.now in
-    word_more run_text front c.loop-first.out.items c.append_with-in-loop-first.new.out.items before run c.loop-first.invariant
+    word_more run_text prefix c.loop-first.out.items c.append_with-in-loop-first.new.out.items before run c.loop-first.invariant
     (run_more c.loop-first.out.items c.append_with.new.out.items c.append_with-in-loop-first.new.out.items run c.in_ok-append_with.ensures c.in_ok-append_with-2.ensures)
-    ∙ ap (λ l. front ++ words_text run_text l) (sym (take_more c.args.runs.now c.loop-first.first-index (0, 0) c.loop-first-test.true))
+    ∙ ap (λ l. prefix ++ words_text run_text l) (sym (take_more c.args.runs.now c.loop-first.first-index (0, 0) c.loop-first-test.true))
 
 -- no memory for the first number of a run
 pub returns-in_err-append_with : goal.returns-in_err-append_with

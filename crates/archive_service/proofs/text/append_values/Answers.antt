@@ -8,7 +8,7 @@ use Rattle.archive_service.proofs.text.append_values.Goals as goal
 -- one value more
 pub loop-value-preserved : goal.loop-value-preserved
 loop-value-preserved c =
-    let front = c.extend_from_slice.new.self.items in
+    let prefix = c.extend_from_slice.new.self.items in
     let out = c.loop-value.out.items in
     let value = c.value-item.result in
     let before = take c.loop-value.value-index c.args.values.now in
@@ -16,7 +16,7 @@ loop-value-preserved c =
     c.in_ok-extend_from_slice-2.ensures.items c.in_ok-append_value.ensures ∙ ap (λ v. out ++ 32 ∷ value_text v) c.as_bytes.ensures in
     let more : take (c.loop-value.value-index + 1) c.args.values.now ≡ before ++ value ∷ [] =
     take_more c.args.values.now c.loop-value.value-index value c.loop-value-test.true ∙ ap (λ v. before ++ v ∷ []) (sym c.value-item.is) in
-    word_more value_text front out c.append_value.new.out.items before value c.loop-value.invariant word ∙ ap (λ l. front ++ words_text value_text l) (sym more)
+    word_more value_text prefix out c.append_value.new.out.items before value c.loop-value.invariant word ∙ ap (λ l. prefix ++ words_text value_text l) (sym more)
 
 -- no memory for a space
 pub returns-in_err-extend_from_slice-2 : goal.returns-in_err-extend_from_slice-2

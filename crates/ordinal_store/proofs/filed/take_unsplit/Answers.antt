@@ -7,13 +7,13 @@ cut_back-requires c = record { sound = c.requires.sound; forward = c.requires.fo
 pub take_whole-requires : goal.take_whole-requires
 take_whole-requires c = record { sound = c.cut_back.ensures.sound; clear = c.cut_back.ensures.clear }
 
-pub cut_front-requires : goal.cut_front-requires
-cut_front-requires c =
+pub cut_prefix-requires : goal.cut_prefix-requires
+cut_prefix-requires c =
     let left = c.take_whole.ensures.taking in
     record { sound = left.sound; forward = c.requires.forward; clear = left.clear; none = c.take_whole.ensures.none }
 
 pub returns : goal.returns
 returns c = record {
-  sound = c.cut_front.ensures.sound;
-  cut = TakesAway-then _ _ _ _ _ (TakesWithin-then _ _ _ _ _ c.cut_back.ensures.cut c.take_whole.ensures.taking.cut) c.cut_front.ensures.cut;
+  sound = c.cut_below.ensures.sound;
+  cut = TakesAway-then _ _ _ _ _ (TakesWithin-then _ _ _ _ _ c.cut_back.ensures.cut c.take_whole.ensures.taking.cut) c.cut_below.ensures.cut;
 }

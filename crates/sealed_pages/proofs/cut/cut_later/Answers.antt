@@ -20,7 +20,7 @@ returns-then-blob-place g c =
           sym (take_all (page_at c.args.blob.now.page_size c.args.page) (disk (g.D.Device.time c.args.dev.now) (opened_key c.args.blob.now)).content (omega (arith, end_is g.D.Device (opened_key c.args.blob.now) c.args.blob.now.end c.args.dev.now _ (g.met.D.Device.opened_stands t c.args.dev.now (opened_key c.args.blob.now)) c.requires.«open», c.page_place-place.ensures, c.if-blob-place.true)));
       rests = λ t rest. rest;
       alone = λ t. alone_start (g.D.Device.time c.args.dev.now) (opened_key c.args.blob.now);
-      front = search rules;
+      prefix = search rules;
       length = c.requires.«open»;
       entries = no_reads_start (g.D.Device.opened c.args.dev.now) (opened_key c.args.blob.now) (open_some (g.D.Device.opened c.args.dev.now) (opened_key c.args.blob.now) c.args.blob.now.end c.requires.«open»);
       faults = omega arith;
@@ -35,7 +35,7 @@ returns-in_err-cut_pages g c =
       content = λ t. no_value _ _ c.from_residual.ensures.0;
       rests = λ t h1. no_value _ _ c.from_residual.ensures.0;
       alone = c.in_err-cut_pages.ensures.alone;
-      front = c.in_err-cut_pages.ensures.front;
+      prefix = c.in_err-cut_pages.ensures.prefix;
       length = no_value _ _ c.from_residual.ensures.0;
       entries = c.in_err-cut_pages.ensures.entries;
       faults = c.in_err-cut_pages.ensures.faults;
@@ -51,7 +51,7 @@ returns g c =
           ap (λ (b : Blob). b.content) (c.in_ok-cut_pages.ensures.settles t) ∙ resized_take (disk (g.D.Device.time c.args.dev.now) (opened_key c.args.blob.now)).content (page_at c.args.blob.now.page_size c.args.page) (omega (arith, end_is g.D.Device (opened_key c.args.blob.now) c.args.blob.now.end c.args.dev.now _ (g.met.D.Device.opened_stands t c.args.dev.now (opened_key c.args.blob.now)) c.requires.«open», c.page_place-place.ensures, c.if-blob-place.false));
       rests = search rules;
       alone = c.in_ok-cut_pages.ensures.alone;
-      front = c.in_ok-cut_pages.ensures.front;
+      prefix = c.in_ok-cut_pages.ensures.prefix;
       length = search rules;
       entries = c.in_ok-cut_pages.ensures.entries;
       faults = c.in_ok-cut_pages.ensures.faults;

@@ -3,7 +3,7 @@ use Rattle.std.proofs.Common.{◌+◌, max, refl, arith, ◌∙◌, ◌≡◌, B
 use Rattle.sealed_pages.proofs.slots.PageCalls.{passes_as, no_ok, alone_start, alone_on}
 use Rattle.sealed_pages.specs.lemmas.Entries.{open_some, no_reads_part, no_reads_updated, open_written, no_reads_start}
 use Rattle.sealed_pages.proofs.adopted.Keeping.{kept_start, clear_any, clear_ok, clear_data}
-use Rattle.sealed_pages.proofs.Fronts.{front_start, front_write}
+use Rattle.sealed_pages.proofs.Prefixes.{prefix_start, prefix_write}
 use Rattle.sealed_pages.specs.View.{page_at, slot_at}
 use Rattle.sealed_pages.proofs.slots.Steps.{slot_low}
 use Rattle.sealed_pages.proofs.adopted.Clearing.{slot_write}
@@ -28,7 +28,7 @@ returns-then-not-torn g c =
             done = (kept, (λ was. was c.if-not-torn.true, λ n far le. le));
           };
       wrote = search rules;
-      front = search rules;
+      prefix = search rules;
       loose = λ t only. only_start (g.D.Device.time c.args.dev.now) (opened_key c.args.blob.now) (OnlySlot (slot_at c.args.blob.now.page_size c.args.page (is_b c.args.slot))) only;
       content = λ t. sym (ap (λ (b : Bool). cond b (written (disk (g.D.Device.time c.args.dev.now) (opened_key c.args.blob.now)).content (slot_at c.args.blob.now.page_size c.args.page (is_b c.args.slot)) no_slot) (disk (g.D.Device.time c.args.dev.now) (opened_key c.args.blob.now)).content) c.if-not-torn.true);
       length = c.requires.«open»;
@@ -50,7 +50,7 @@ returns-in_err-write_at g c =
             alone = alone_on (alone_start (g.D.Device.time c.args.dev.now) (opened_key c.args.blob.now)) (c.write_at.ensures.told t);
             done = no_ok _ c.from_residual.result c.from_residual.ensures.0;
           };
-      front = λ t. front_write (page_at c.args.blob.now.page_size c.args.page) (opened_key c.args.blob.now) (g.D.Device.time c.args.dev.now) (g.D.Device.time c.args.dev.now) (g.D.Device.time c.write_at.new.self) _ _ _ (omega (arith, c.slot_place-place.ensures, slot_low c.args.blob.now.page_size c.args.page (is_b c.args.slot))) (front_start (page_at c.args.blob.now.page_size c.args.page) (opened_key c.args.blob.now) (g.D.Device.time c.args.dev.now)) (c.write_at.ensures.told t);
+      prefix = λ t. prefix_write (page_at c.args.blob.now.page_size c.args.page) (opened_key c.args.blob.now) (g.D.Device.time c.args.dev.now) (g.D.Device.time c.args.dev.now) (g.D.Device.time c.write_at.new.self) _ _ _ (omega (arith, c.slot_place-place.ensures, slot_low c.args.blob.now.page_size c.args.page (is_b c.args.slot))) (prefix_start (page_at c.args.blob.now.page_size c.args.page) (opened_key c.args.blob.now) (g.D.Device.time c.args.dev.now)) (c.write_at.ensures.told t);
       loose = λ t only. slot_write (slot_at c.args.blob.now.page_size c.args.page (is_b c.args.slot)) (opened_key c.args.blob.now) (g.D.Device.time c.args.dev.now) (g.D.Device.time c.args.dev.now) (g.D.Device.time c.write_at.new.self) _ (only_start (g.D.Device.time c.args.dev.now) (opened_key c.args.blob.now) (OnlySlot (slot_at c.args.blob.now.page_size c.args.page (is_b c.args.slot))) only) (passes_as c.slot_place-place.ensures refl (c.write_at.ensures.told t));
       content = λ t. no_value _ _ c.from_residual.ensures.0;
       length = no_value _ _ c.from_residual.ensures.0;
@@ -74,7 +74,7 @@ returns g c =
             alone = alone_on (alone_start (g.D.Device.time c.args.dev.now) (opened_key c.args.blob.now)) (c.in_ok-write_at.ensures.told t);
             done = clear_data c.args.blob.now.page_size all F c.args.page (is_b c.args.slot) (opened_key c.args.blob.now) (g.D.Device.time c.args.dev.now) (g.D.Device.time c.write_at.new.self) _ (passes_as c.slot_place-place.ensures refl (c.in_ok-write_at.ensures.told t)) same;
           };
-      front = λ t. front_write (page_at c.args.blob.now.page_size c.args.page) (opened_key c.args.blob.now) (g.D.Device.time c.args.dev.now) (g.D.Device.time c.args.dev.now) (g.D.Device.time c.write_at.new.self) _ _ _ (omega (arith, c.slot_place-place.ensures, slot_low c.args.blob.now.page_size c.args.page (is_b c.args.slot))) (front_start (page_at c.args.blob.now.page_size c.args.page) (opened_key c.args.blob.now) (g.D.Device.time c.args.dev.now)) (c.in_ok-write_at.ensures.told t);
+      prefix = λ t. prefix_write (page_at c.args.blob.now.page_size c.args.page) (opened_key c.args.blob.now) (g.D.Device.time c.args.dev.now) (g.D.Device.time c.args.dev.now) (g.D.Device.time c.write_at.new.self) _ _ _ (omega (arith, c.slot_place-place.ensures, slot_low c.args.blob.now.page_size c.args.page (is_b c.args.slot))) (prefix_start (page_at c.args.blob.now.page_size c.args.page) (opened_key c.args.blob.now) (g.D.Device.time c.args.dev.now)) (c.in_ok-write_at.ensures.told t);
       loose = λ t only. slot_write (slot_at c.args.blob.now.page_size c.args.page (is_b c.args.slot)) (opened_key c.args.blob.now) (g.D.Device.time c.args.dev.now) (g.D.Device.time c.args.dev.now) (g.D.Device.time c.write_at.new.self) _ (only_start (g.D.Device.time c.args.dev.now) (opened_key c.args.blob.now) (OnlySlot (slot_at c.args.blob.now.page_size c.args.page (is_b c.args.slot))) only) (passes_as c.slot_place-place.ensures refl (c.in_ok-write_at.ensures.told t));
       content = λ t.
           let done : (disk (g.D.Device.time c.write_at.new.self) (opened_key c.args.blob.now)).content ≡ (written (disk (g.D.Device.time c.args.dev.now) (opened_key c.args.blob.now)).content (slot_at c.args.blob.now.page_size c.args.page (is_b c.args.slot)) no_slot) = ap (λ (b : Blob). b.content) (ok_blob (opened_key c.args.blob.now) (Write (slot_at c.args.blob.now.page_size c.args.page (is_b c.args.slot)) no_slot) _ (g.D.Device.time c.args.dev.now) (g.D.Device.time c.write_at.new.self) (passes_as c.slot_place-place.ensures refl (c.in_ok-write_at.ensures.told t))) in

@@ -3,7 +3,7 @@ use Rattle.std.proofs.Common.{arith, ◌∙◌, ◌≡◌, Bool, cond, ap, sym, 
 use Rattle.sealed_pages.proofs.slots.PageCalls.{no_ok, alone_start, alone_on}
 use Rattle.sealed_pages.specs.lemmas.Entries.{open_some, no_reads_resize, no_reads_updated, open_resized, no_reads_start}
 use Rattle.sealed_pages.proofs.adopted.Keeping.{kept_start, behind_any, behind_ok, resize_as, cut_data}
-use Rattle.sealed_pages.proofs.Fronts.{front_start, front_resize}
+use Rattle.sealed_pages.proofs.Prefixes.{prefix_start, prefix_resize}
 use Rattle.sealed_pages.specs.View.{page_at}
 use Rattle.sealed_pages.proofs.adopted.Clearing.{slot_start, slot_resize}
 use Rattle.blob_device.specs.Timeline.{disk}
@@ -25,7 +25,7 @@ returns-then-not-behind g c =
             done = (kept, (shorter c.if-not-behind.true, λ k b less clean. clean));
           };
       wrote = search rules;
-      front = search rules;
+      prefix = search rules;
       loose = λ t at rest. slot_start at (opened_key c.args.blob.now) (g.D.Device.time c.args.dev.now) rest;
       content = λ t. sym (ap (λ (b : Bool). cond b (resized (disk (g.D.Device.time c.args.dev.now) (opened_key c.args.blob.now)).content (page_at c.args.blob.now.page_size c.args.pages)) (disk (g.D.Device.time c.args.dev.now) (opened_key c.args.blob.now)).content) c.if-not-behind.true);
       length = c.requires.«open»;
@@ -47,7 +47,7 @@ returns-in_err-resize g c =
             alone = alone_on (alone_start (g.D.Device.time c.args.dev.now) (opened_key c.args.blob.now)) (c.resize.ensures.told t);
             done = no_ok _ c.from_residual.result c.from_residual.ensures.0;
           };
-      front = λ t. front_resize (page_at c.args.blob.now.page_size c.args.pages) (opened_key c.args.blob.now) (g.D.Device.time c.args.dev.now) (g.D.Device.time c.args.dev.now) (g.D.Device.time c.resize.new.self) _ _ (omega (arith, c.page_place-place.ensures)) (front_start (page_at c.args.blob.now.page_size c.args.pages) (opened_key c.args.blob.now) (g.D.Device.time c.args.dev.now)) (c.resize.ensures.told t);
+      prefix = λ t. prefix_resize (page_at c.args.blob.now.page_size c.args.pages) (opened_key c.args.blob.now) (g.D.Device.time c.args.dev.now) (g.D.Device.time c.args.dev.now) (g.D.Device.time c.resize.new.self) _ _ (omega (arith, c.page_place-place.ensures)) (prefix_start (page_at c.args.blob.now.page_size c.args.pages) (opened_key c.args.blob.now) (g.D.Device.time c.args.dev.now)) (c.resize.ensures.told t);
       loose = λ t at rest. slot_resize at (opened_key c.args.blob.now) (g.D.Device.time c.args.dev.now) (g.D.Device.time c.args.dev.now) (g.D.Device.time c.resize.new.self) _ _ (slot_start at (opened_key c.args.blob.now) (g.D.Device.time c.args.dev.now) rest) (c.resize.ensures.told t);
       content = λ t. no_value _ _ c.from_residual.ensures.0;
       length = no_value _ _ c.from_residual.ensures.0;
@@ -70,7 +70,7 @@ returns g c =
             alone = alone_on (alone_start (g.D.Device.time c.args.dev.now) (opened_key c.args.blob.now)) (c.in_ok-resize.ensures.told t);
             done = cut_data c.args.blob.now.page_size all F c.args.pages (opened_key c.args.blob.now) (g.D.Device.time c.args.dev.now) (g.D.Device.time c.resize.new.self) _ inside (resize_as c.page_place-place.ensures (c.in_ok-resize.ensures.told t)) same;
           };
-      front = λ t. front_resize (page_at c.args.blob.now.page_size c.args.pages) (opened_key c.args.blob.now) (g.D.Device.time c.args.dev.now) (g.D.Device.time c.args.dev.now) (g.D.Device.time c.resize.new.self) _ _ (omega (arith, c.page_place-place.ensures)) (front_start (page_at c.args.blob.now.page_size c.args.pages) (opened_key c.args.blob.now) (g.D.Device.time c.args.dev.now)) (c.in_ok-resize.ensures.told t);
+      prefix = λ t. prefix_resize (page_at c.args.blob.now.page_size c.args.pages) (opened_key c.args.blob.now) (g.D.Device.time c.args.dev.now) (g.D.Device.time c.args.dev.now) (g.D.Device.time c.resize.new.self) _ _ (omega (arith, c.page_place-place.ensures)) (prefix_start (page_at c.args.blob.now.page_size c.args.pages) (opened_key c.args.blob.now) (g.D.Device.time c.args.dev.now)) (c.in_ok-resize.ensures.told t);
       loose = λ t at rest. slot_resize at (opened_key c.args.blob.now) (g.D.Device.time c.args.dev.now) (g.D.Device.time c.args.dev.now) (g.D.Device.time c.resize.new.self) _ _ (slot_start at (opened_key c.args.blob.now) (g.D.Device.time c.args.dev.now) rest) (c.in_ok-resize.ensures.told t);
       content = λ t.
           let done : (disk (g.D.Device.time c.resize.new.self) (opened_key c.args.blob.now)).content ≡ resized (disk (g.D.Device.time c.args.dev.now) (opened_key c.args.blob.now)).content (page_at c.args.blob.now.page_size c.args.pages) = ap (λ (b : Blob). b.content) (ok_blob (opened_key c.args.blob.now) (Resize c.page_place-place.result) _ (g.D.Device.time c.args.dev.now) (g.D.Device.time c.resize.new.self) (c.in_ok-resize.ensures.told t)) ∙ ap (resized (disk (g.D.Device.time c.args.dev.now) (opened_key c.args.blob.now)).content) c.page_place-place.ensures in

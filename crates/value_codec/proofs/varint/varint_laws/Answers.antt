@@ -1,5 +1,5 @@
 use Rattle.std.proofs.Common.{arith}
-use Rattle.value_codec.proofs.VarintFront.{front_gives}
+use Rattle.value_codec.proofs.VarintPrefix.{prefix_gives}
 use Rattle.value_codec.proofs.VarintLemmas.{varint_spells, varint_only, varint_shortest, varint_apart, varint_at_most}
 use Rattle.value_codec.proofs.varint.varint_laws.Goals as goal
 
@@ -21,5 +21,5 @@ returns-clause-at_most_5 c = λ n below. varint_at_most 4 n (omega arith)
 pub returns-clause-at_most_10 : goal.returns-clause-at_most_10
 returns-clause-at_most_10 c = λ n below. varint_at_most 9 n (omega arith)
 
-pub returns-clause-front : goal.returns-clause-front
-returns-clause-front c = front_gives
+pub returns-clause-prefix : goal.returns-clause-prefix
+returns-clause-prefix c = prefix_gives

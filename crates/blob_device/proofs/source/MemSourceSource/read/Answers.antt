@@ -12,10 +12,10 @@ pub returns-clause-told : goal.returns-clause-told
 returns-clause-told c told =
     let rest : c.split_at.result.1.now ≡ drop c.args.self.now.at c.args.self.now.bytes.items =
     c.split_at.ensures.back ∙ ap (drop c.args.self.now.at) c.as_slice-2.ensures.value in (
-      read_split c.args.self.now.bytes.items c.args.self.now.at c.copy_front-count.result c.copy_front-count.new.into
-          (c.copy_front-count.ensures.front ∙ ap (take c.copy_front-count.result) rest),
+      read_split c.args.self.now.bytes.items c.args.self.now.at c.copy_prefix-count.result c.copy_prefix-count.new.into
+          (c.copy_prefix-count.ensures.prefix ∙ ap (take c.copy_prefix-count.result) rest),
       λ none. none_left (drop c.args.self.now.at c.args.self.now.bytes.items)
-          (omega (arith, ap length rest, c.copy_front-count.ensures.count, c.args.self.now.piece_is_some, c.requires)),
+          (omega (arith, ap length rest, c.copy_prefix-count.ensures.count, c.args.self.now.piece_is_some, c.requires)),
     )
 
 pub returns-clause-fails : goal.returns-clause-fails

@@ -7,7 +7,7 @@ use Rattle.meta_store.specs.declared.metadata.reading.Entry.{Entry}
 use Rattle.meta_store.specs.Format.{Format, format_of}
 use Rattle.meta_store.specs.Copies.{IsStorable, IsEntries, entry_bytes, entries_bytes}
 use Rattle.meta_store.proofs.Ascending.{keys_append}
-use Rattle.meta_store.proofs.EntryLists.{GoesOn, NextEntry, goes_from_start, next_entry, goes_past, front_more, all_read, none_behind}
+use Rattle.meta_store.proofs.EntryLists.{GoesOn, NextEntry, goes_from_start, next_entry, goes_past, prefix_more, all_read, none_behind}
 use Rattle.meta_store.proofs.metadata.Metadata.read_entries.Goals as goal
 use Rattle.blob_device.proofs.general.Lists.{all_push}
 
@@ -17,7 +17,7 @@ entries-init g c = subst
     (λ (items : List (g.row.K.Denot × g.row.V.Denot)). record {
       number : length items ≡ 0;
       within : 0 ≤ length c.args.bytes.now;
-      front : ◌≡◌ {A = List ℕ} [] (entries_bytes g.K.Key.key_bytes g.V.Codec.spelling items);
+      prefix : ◌≡◌ {A = List ℕ} [] (entries_bytes g.K.Key.key_bytes g.V.Codec.spelling items);
       ascending : IsStrictlySortedBy g.K.Ord.cmp (keys_of items);
       storable : AllByRecursion (λ e. IsStorable (format_of g.K.Ord.cmp g.K.Key.key_bytes g.V.Codec g.S.Seal c.args.cfg) e.1) items;
       goes_on : (entries : List (g.row.K.Denot × g.row.V.Denot)) → IsEntries (format_of g.K.Ord.cmp g.K.Key.key_bytes g.V.Codec g.S.Seal c.args.cfg) c.args.count c.args.bytes.now entries
@@ -27,7 +27,7 @@ entries-init g c = subst
     (record {
       number = refl;
       within = omega arith;
-      front = refl;
+      prefix = refl;
       ascending = tt;
       storable = tt;
       goes_on = λ entries all. goes_from_start (format_of g.K.Ord.cmp g.K.Key.key_bytes g.V.Codec g.S.Seal c.args.cfg) c.args.count c.args.bytes.now entries all;
@@ -78,8 +78,8 @@ entries-preserved g c =
     record {
       number = omega (arith, ap length pushed, length_push items entry, c.entries.invariant.number);
       within = omega (arith, within, length-take (length bytes - at) (drop at bytes), length-drop at bytes, c.entries.invariant.within);
-      front = subst (λ (l : List (g.row.K.Denot × g.row.V.Denot)). take (at + e.len) bytes ≡ entries_bytes g.K.Key.key_bytes g.V.Codec.spelling l) (sym pushed)
-          (front_more f bytes items at e.len entry c.entries.invariant.front (ap (take e.len) (sym (take_rest bytes at)) ∙ read));
+      prefix = subst (λ (l : List (g.row.K.Denot × g.row.V.Denot)). take (at + e.len) bytes ≡ entries_bytes g.K.Key.key_bytes g.V.Codec.spelling l) (sym pushed)
+          (prefix_more f bytes items at e.len entry c.entries.invariant.prefix (ap (take e.len) (sym (take_rest bytes at)) ∙ read));
       ascending = subst (λ (l : List (g.row.K.Denot × g.row.V.Denot)). IsStrictlySortedBy g.K.Ord.cmp (keys_of l)) (sym pushed)
           (subst (IsStrictlySortedBy g.K.Ord.cmp) (sym (keys_append items (entry ∷ []))) sorted);
       storable = subst (AllByRecursion (λ e. IsStorable f e.1)) (sym pushed) (all_push (λ e. IsStorable f e.1) items entry c.entries.invariant.storable storable);
@@ -101,7 +101,7 @@ returns-clause-read g c =
     let end : c.args.count ≡ c.entries.counter = omega (arith, c.entries-test.false, c.entries.auto.counter-end) in
     subst (IsEntries _ c.args.count c.args.bytes.now) (sym c.from_vec.ensures) (record {
       number = c.entries.invariant.number ∙ sym end;
-      spelled = sym (take_all c.entries.at c.args.bytes.now c.if-at-bytes.false) ∙ c.entries.invariant.front;
+      spelled = sym (take_all c.entries.at c.args.bytes.now c.if-at-bytes.false) ∙ c.entries.invariant.prefix;
       ascending = c.entries.invariant.ascending;
       storable = c.entries.invariant.storable;
     })

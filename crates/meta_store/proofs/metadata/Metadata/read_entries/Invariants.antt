@@ -11,7 +11,7 @@ abbrev pub invariant-entries : goal.invariant-entries
 invariant-entries g l = record {
   number : length l.items.items ≡ l.counter;
   within : l.at ≤ length l.bytes;
-  front : take l.at l.bytes ≡ entries_bytes g.K.Key.key_bytes g.V.Codec.spelling l.items.items;
+  prefix : take l.at l.bytes ≡ entries_bytes g.K.Key.key_bytes g.V.Codec.spelling l.items.items;
   ascending : IsStrictlySortedBy g.K.Ord.cmp (keys_of l.items.items);
   storable : AllByRecursion (λ e. IsStorable (format_of g.K.Ord.cmp g.K.Key.key_bytes g.V.Codec g.S.Seal l.cfg) e.1) l.items.items;
   goes_on : (entries : List (g.row.K.Denot × g.row.V.Denot)) → IsEntries (format_of g.K.Ord.cmp g.K.Key.key_bytes g.V.Codec g.S.Seal l.cfg) l.count l.bytes entries

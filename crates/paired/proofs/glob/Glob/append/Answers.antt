@@ -25,8 +25,8 @@ use Rattle.paired.proofs.GlobLemmas.{buffers, Serves, serves_of, glob_one, same_
 use Rattle.section_manager.proofs.sections.EntryLemmas.{starts_none}
 use Rattle.section_manager.proofs.sections.TruncateLemmas.{unread_then}
 use Rattle.paired.specs.Frames.{frame, HasFrame}
-use Rattle.paired.specs.glob.Sections.{section_bytes, section_size, pending_size, pending_held, settled_held, HadFronts, TakesMore}
-use Rattle.paired.proofs.AppendLemmas.{stays_below, full_held, end_size, some_size, match_err, never_full, why_of, same_error, mapped_ok, ok_at, open_long, taken_size, taken_bytes, appended_takes, appended_whole, still_moments, begin_moments, begun_moments, append_fronts, append_moments, taken_serves, held_moments}
+use Rattle.paired.specs.glob.Sections.{section_bytes, section_size, pending_size, pending_held, settled_held, HadPrefixes, TakesMore}
+use Rattle.paired.proofs.AppendLemmas.{stays_below, full_held, end_size, some_size, match_err, never_full, why_of, same_error, mapped_ok, ok_at, open_long, taken_size, taken_bytes, appended_takes, appended_whole, still_moments, begin_moments, begun_moments, append_prefixes, append_moments, taken_serves, held_moments}
 use Rattle.paired.proofs.FrameLemmas.{length-frame}
 use Rattle.paired.proofs.FrameLemmas.{stands as frame_stands}
 use Rattle.std.proofs.lemmas.Bool.{cases_lt}
@@ -298,10 +298,10 @@ returns-clause-over g c =
       behind = ok_at c.append.result (v, c.in_ok-buffer-2.offset) (λ r. writing.StandsBehind (writing.shown r.0)) got (c.append.ensures.behind before.behind);
       whole = λ t. appended_whole w v bytes size run (disk b k) (disk e k) (ap (λ (x : WriteBuffer). x.settled) same) (before.whole t)
           (subst (λ (q : Key). (i : ℕ) → Outside ((count_of w, length bytes) ∷ run_of (writing.shown w) ∷ []) i → Outside (disk b q).loose i → Outside (disk e q).loose i) took.key (always_now b e _ (c.append.ensures.spares t)).here.loose);
-      fronts = λ t. subst (λ (l : List ℕ). HadFronts l (disk e k))
+      prefixes = λ t. subst (λ (l : List ℕ). HadPrefixes l (disk e k))
           (sym (subst (λ (q : Key). content_of v (disk e q).content ≡ content_of w (disk b q).content ++ bytes) took.key
           (ok_at c.append.result (v, c.in_ok-buffer-2.offset) (λ r. content_of r.0 (disk e (writing.blob_key (writing.shown w))).content ≡ content_of w (disk b (writing.blob_key (writing.shown w))).content ++ bytes) got (c.append.ensures.bytes t))))
-          (append_fronts w bytes bytes refl k b e took.key t (took.stands t) before (c.append.ensures.spares t) (c.append.ensures.since t));
+          (append_prefixes w bytes bytes refl k b e took.key t (took.stands t) before (c.append.ensures.spares t) (c.append.ensures.since t));
     } in
     glob_one _ m (g.D.Device.opened c.args.dev.now) (disk a) c.requires.over n (g.D.Device.opened c.append.new.dev) (disk e) s is.over is.bounds is.others c.ranges.section.fits is.touches.blobs
     (λ u held. subst (λ (x : WriteBlob). Serves g.D.Device.Tells x (disk e (key_of n s))) (some_same v u (sym put.here ∙ held))

@@ -43,24 +43,24 @@ returns-clause-index g c =
     let is_v : string_bytes c.in_ok-values.field-0.partition ≡ v = c.in_ok-values.ensures.partition in
     let j = floors.journal_of c.in_ok-found.found in
     let here : j.sections.partition ≡ i = c.in_ok-found.ensures.partition ∙ is_i in
-    subst (λ (k : Lists _ _). IsJournal (pages.ghosts g.row.S g.S.Seal g.S.Seal-dict) (factory.ghosts g.row.S g.S.Seal g.S.Seal-dict).gives g.S.Seal.seal_of g.I.CodecFixed.SIZE g.D.Device.Tells k (g.D.Device.opened c.finish.new.dev) (disk f)) (sym (given _ _ g.S.Seal.seal_of g.I.CodecFixed.SIZE g.D.Device (floors.journal_of c.in_ok-found.found) _ c.init.new.dev c.finish.new.dev (floors.shown c.in_ok-found.found).target c.in_ok-found.ensures.target c.in_ok-index-2.ensures).same)
+    subst (λ (k : Lists _ _). IsJournal (pages.ghosts g.row.S g.S.Seal g.S.Seal-dict) (factory.ghosts g.row.S g.S.Seal g.S.Seal-dict).gives g.S.Seal.seal_of g.I.CodecFixed.SIZE g.D.Device.Tells k (g.D.Device.opened c.finish.new.dev) (disk f)) (sym (given _ _ g.S.Seal.seal_of g.I.CodecFixed.SIZE g.D.Device (floors.journal_of c.in_ok-found.found) _ c.init.new.dev c.finish.new.dev (floors.preflight_shown c.in_ok-found.found).target c.in_ok-found.ensures.target c.in_ok-index-2.ensures).same)
     (journal_stays g.S.Seal.seal_of g.I.CodecFixed.SIZE j (g.D.Device.opened c.preflight_floors.new.dev) (g.D.Device.opened c.finish.new.dev) (disk b) (disk f)
-    (λ s small. ap (λ x. g.D.Device.opened x (key_of j.sections s)) (given _ _ g.S.Seal.seal_of g.I.CodecFixed.SIZE g.D.Device (floors.journal_of c.in_ok-found.found) _ c.init.new.dev c.finish.new.dev (floors.shown c.in_ok-found.found).target c.in_ok-found.ensures.target c.finish.ensures).unchanged ∙ c.init.ensures.entries (key_of j.sections s) (λ q le. keys_apart (string_bytes c.in_ok-values.field-0.partition) j.sections.partition (λ same. c.requires.apart (sym here ∙ sym same ∙ is_v)) s q))
-    (λ t s small. ap (λ x. disk (g.D.Device.time x) (key_of j.sections s)) (given _ _ g.S.Seal.seal_of g.I.CodecFixed.SIZE g.D.Device (floors.journal_of c.in_ok-found.found) _ c.init.new.dev c.finish.new.dev (floors.shown c.in_ok-found.found).target c.in_ok-found.ensures.target c.finish.ensures).unchanged ∙ settling_others (2 ^ 64 - 1) (string_bytes c.in_ok-values.field-0.partition) (disk b) (disk e) (always_now b e _ (c.init.ensures.moments t)) (key_of j.sections s) (λ same. c.requires.apart (sym here ∙ same ∙ is_v)))
+    (λ s small. ap (λ x. g.D.Device.opened x (key_of j.sections s)) (given _ _ g.S.Seal.seal_of g.I.CodecFixed.SIZE g.D.Device (floors.journal_of c.in_ok-found.found) _ c.init.new.dev c.finish.new.dev (floors.preflight_shown c.in_ok-found.found).target c.in_ok-found.ensures.target c.finish.ensures).unchanged ∙ c.init.ensures.entries (key_of j.sections s) (λ q le. keys_apart (string_bytes c.in_ok-values.field-0.partition) j.sections.partition (λ same. c.requires.apart (sym here ∙ sym same ∙ is_v)) s q))
+    (λ t s small. ap (λ x. disk (g.D.Device.time x) (key_of j.sections s)) (given _ _ g.S.Seal.seal_of g.I.CodecFixed.SIZE g.D.Device (floors.journal_of c.in_ok-found.found) _ c.init.new.dev c.finish.new.dev (floors.preflight_shown c.in_ok-found.found).target c.in_ok-found.ensures.target c.finish.ensures).unchanged ∙ settling_others (2 ^ 64 - 1) (string_bytes c.in_ok-values.field-0.partition) (disk b) (disk e) (always_now b e _ (c.init.ensures.moments t)) (key_of j.sections s) (λ same. c.requires.apart (sym here ∙ same ∙ is_v)))
     c.in_ok-found.ensures.over)
 
 pub returns-clause-values : goal.returns-clause-values
 returns-clause-values g c =
     let m = managed.shown c.in_ok-values-2.values.manager in
-    glob_kept m (g.D.Device.opened c.init.new.dev) (g.D.Device.opened c.finish.new.dev) (disk (g.D.Device.time c.init.new.dev)) (disk (g.D.Device.time c.finish.new.dev)) (λ s. ap (λ x. g.D.Device.opened x (key_of m s)) (given _ _ g.S.Seal.seal_of g.I.CodecFixed.SIZE g.D.Device (floors.journal_of c.in_ok-found.found) _ c.init.new.dev c.finish.new.dev (floors.shown c.in_ok-found.found).target c.in_ok-found.ensures.target c.finish.ensures).unchanged)
-    (λ t s. ap (λ x. disk (g.D.Device.time x) (key_of m s)) (given _ _ g.S.Seal.seal_of g.I.CodecFixed.SIZE g.D.Device (floors.journal_of c.in_ok-found.found) _ c.init.new.dev c.finish.new.dev (floors.shown c.in_ok-found.found).target c.in_ok-found.ensures.target c.finish.ensures).unchanged) c.in_ok-values-2.ensures.over
+    glob_kept m (g.D.Device.opened c.init.new.dev) (g.D.Device.opened c.finish.new.dev) (disk (g.D.Device.time c.init.new.dev)) (disk (g.D.Device.time c.finish.new.dev)) (λ s. ap (λ x. g.D.Device.opened x (key_of m s)) (given _ _ g.S.Seal.seal_of g.I.CodecFixed.SIZE g.D.Device (floors.journal_of c.in_ok-found.found) _ c.init.new.dev c.finish.new.dev (floors.preflight_shown c.in_ok-found.found).target c.in_ok-found.ensures.target c.finish.ensures).unchanged)
+    (λ t s. ap (λ x. disk (g.D.Device.time x) (key_of m s)) (given _ _ g.S.Seal.seal_of g.I.CodecFixed.SIZE g.D.Device (floors.journal_of c.in_ok-found.found) _ c.init.new.dev c.finish.new.dev (floors.preflight_shown c.in_ok-found.found).target c.in_ok-found.ensures.target c.finish.ensures).unchanged) c.in_ok-values-2.ensures.over
 
 pub returns-clause-index_held : goal.returns-clause-index_held
 returns-clause-index_held g c t s small =
     let i : List ℕ = string_bytes c.args.cfg.now.index_partition in
     let a = g.D.Device.time c.args.dev.now in
     let is_i : string_bytes c.in_ok-index.field-0.partition ≡ i = c.in_ok-index.ensures.partition in
-    subst (λ (k : Lists _ _). IsHeld k.sections s ↔ IsTrue (disk a (section_key i s)).there) (sym (given _ _ g.S.Seal.seal_of g.I.CodecFixed.SIZE g.D.Device (floors.journal_of c.in_ok-found.found) _ c.init.new.dev c.finish.new.dev (floors.shown c.in_ok-found.found).target c.in_ok-found.ensures.target c.in_ok-index-2.ensures).same)
+    subst (λ (k : Lists _ _). IsHeld k.sections s ↔ IsTrue (disk a (section_key i s)).there) (sym (given _ _ g.S.Seal.seal_of g.I.CodecFixed.SIZE g.D.Device (floors.journal_of c.in_ok-found.found) _ c.init.new.dev c.finish.new.dev (floors.preflight_shown c.in_ok-found.found).target c.in_ok-found.ensures.target c.in_ok-index-2.ensures).same)
     (held_before (disk a (section_key (string_bytes c.in_ok-index.field-0.partition) s)) (disk a (section_key i s)) s (2 ^ 64 - 1) (c.in_ok-found.ensures.held t s small) (omega (arith, small))
     (ap (λ (k : Key). (disk a k).there) (named_key (string_bytes c.in_ok-index.field-0.partition) i s is_i)))
 
@@ -79,7 +79,7 @@ returns-clause-values_held g c t s small =
 pub returns-clause-index_known : goal.returns-clause-index_known
 returns-clause-index_known g c =
     let j = floors.journal_of c.in_ok-found.found in
-    subst (λ (k : Lists _ _). (s : ℕ) → k.sections.unopened s ≡ None) (sym (given _ _ g.S.Seal.seal_of g.I.CodecFixed.SIZE g.D.Device (floors.journal_of c.in_ok-found.found) _ c.init.new.dev c.finish.new.dev (floors.shown c.in_ok-found.found).target c.in_ok-found.ensures.target c.in_ok-index-2.ensures).same)
+    subst (λ (k : Lists _ _). (s : ℕ) → k.sections.unopened s ≡ None) (sym (given _ _ g.S.Seal.seal_of g.I.CodecFixed.SIZE g.D.Device (floors.journal_of c.in_ok-found.found) _ c.init.new.dev c.finish.new.dev (floors.preflight_shown c.in_ok-found.found).target c.in_ok-found.ensures.target c.in_ok-index-2.ensures).same)
     (unknown j.sections (g.D.Device.opened c.preflight_floors.new.dev) (disk (g.D.Device.time c.preflight_floors.new.dev)) (2 ^ 64 - 1) c.in_ok-found.ensures.over.over (omega arith) c.in_ok-found.ensures.later)
 
 pub returns-clause-values_known : goal.returns-clause-values_known
@@ -100,8 +100,8 @@ returns-clause-index_bytes g c t =
     let is_v : string_bytes c.in_ok-values.field-0.partition ≡ v = c.in_ok-values.ensures.partition in
     let j = floors.journal_of c.in_ok-found.found in
     let here : j.sections.partition ≡ i = c.in_ok-found.ensures.partition ∙ is_i in
-    subst (λ (k : Lists _ _). (s : ℕ) → IsHeld k.sections s → fixed.section_bytes k.sections (disk f) s ≡ adopted_bytes g.S.Seal.seal_of k.sections.factory.pages.page_size (disk a (section_key i s)).content) (sym (given _ _ g.S.Seal.seal_of g.I.CodecFixed.SIZE g.D.Device (floors.journal_of c.in_ok-found.found) _ c.init.new.dev c.finish.new.dev (floors.shown c.in_ok-found.found).target c.in_ok-found.ensures.target c.in_ok-index-2.ensures).same)
-    (λ s held. ap (λ x. fixed.section_bytes j.sections (disk (g.D.Device.time x)) s) (given _ _ g.S.Seal.seal_of g.I.CodecFixed.SIZE g.D.Device (floors.journal_of c.in_ok-found.found) _ c.init.new.dev c.finish.new.dev (floors.shown c.in_ok-found.found).target c.in_ok-found.ensures.target c.finish.ensures).unchanged
+    subst (λ (k : Lists _ _). (s : ℕ) → IsHeld k.sections s → fixed.section_bytes k.sections (disk f) s ≡ adopted_bytes g.S.Seal.seal_of k.sections.factory.pages.page_size (disk a (section_key i s)).content) (sym (given _ _ g.S.Seal.seal_of g.I.CodecFixed.SIZE g.D.Device (floors.journal_of c.in_ok-found.found) _ c.init.new.dev c.finish.new.dev (floors.preflight_shown c.in_ok-found.found).target c.in_ok-found.ensures.target c.in_ok-index-2.ensures).same)
+    (λ s held. ap (λ x. fixed.section_bytes j.sections (disk (g.D.Device.time x)) s) (given _ _ g.S.Seal.seal_of g.I.CodecFixed.SIZE g.D.Device (floors.journal_of c.in_ok-found.found) _ c.init.new.dev c.finish.new.dev (floors.preflight_shown c.in_ok-found.found).target c.in_ok-found.ensures.target c.finish.ensures).unchanged
     ∙ ap (λ (x : Blob). fixed.bytes_held (j.sections.held s) x.content) (settling_others (2 ^ 64 - 1) (string_bytes c.in_ok-values.field-0.partition) (disk b) (disk e) (always_now b e _ (c.init.ensures.moments t)) (key_of j.sections s) (λ same. c.requires.apart (sym here ∙ same ∙ is_v)))
     ∙ c.in_ok-found.ensures.bytes t s held
     ∙ ap (λ (k : Key). adopted_bytes g.S.Seal.seal_of j.sections.factory.pages.page_size (disk a k).content) (named_key (string_bytes c.in_ok-index.field-0.partition) i s is_i))
@@ -116,29 +116,29 @@ returns-clause-values_bytes g c t s held =
     let is_v : string_bytes c.in_ok-values.field-0.partition ≡ v = c.in_ok-values.ensures.partition in
     let m = managed.shown c.in_ok-values-2.values.manager in
     let first : Always a b (Each (IsSettling i (2 ^ 64 - 1) (disk a))) = settling_of (string_bytes c.in_ok-index.field-0.partition) i (2 ^ 64 - 1) (2 ^ 64 - 1) a b is_i refl (c.preflight_floors.ensures.moments t) in
-    ap (λ x. section_bytes m (disk (g.D.Device.time x)) s) (given _ _ g.S.Seal.seal_of g.I.CodecFixed.SIZE g.D.Device (floors.journal_of c.in_ok-found.found) _ c.init.new.dev c.finish.new.dev (floors.shown c.in_ok-found.found).target c.in_ok-found.ensures.target c.finish.ensures).unchanged
+    ap (λ x. section_bytes m (disk (g.D.Device.time x)) s) (given _ _ g.S.Seal.seal_of g.I.CodecFixed.SIZE g.D.Device (floors.journal_of c.in_ok-found.found) _ c.init.new.dev c.finish.new.dev (floors.preflight_shown c.in_ok-found.found).target c.in_ok-found.ensures.target c.finish.ensures).unchanged
     ∙ c.in_ok-values-2.ensures.bytes t s held
     ∙ ap (λ (k : Key). (disk b k).content) (named_key (string_bytes c.in_ok-values.field-0.partition) v s is_v) ∙ ap (λ (x : Blob). x.content) (values_first (2 ^ 64 - 1) i v c.requires.apart a b first (to_be_bytes w64 s))
 
 pub returns-clause-unrecovered : goal.returns-clause-unrecovered
 returns-clause-unrecovered g c =
-    subst (λ (k : Lists _ _). (s : ℕ) → IsTrue (k.unrecovered s) ↔ (k.floor_of s < fixed.section_size k.sections s)) (sym (given _ _ g.S.Seal.seal_of g.I.CodecFixed.SIZE g.D.Device (floors.journal_of c.in_ok-found.found) _ c.init.new.dev c.finish.new.dev (floors.shown c.in_ok-found.found).target c.in_ok-found.ensures.target c.in_ok-index-2.ensures).same) c.in_ok-found.ensures.unrecovered
+    subst (λ (k : Lists _ _). (s : ℕ) → IsTrue (k.unrecovered s) ↔ (k.floor_of s < fixed.section_size k.sections s)) (sym (given _ _ g.S.Seal.seal_of g.I.CodecFixed.SIZE g.D.Device (floors.journal_of c.in_ok-found.found) _ c.init.new.dev c.finish.new.dev (floors.preflight_shown c.in_ok-found.found).target c.in_ok-found.ensures.target c.in_ok-index-2.ensures).same) c.in_ok-found.ensures.unrecovered
 
 pub returns-clause-reached : goal.returns-clause-reached
 returns-clause-reached g c =
-    subst (λ (k : Lists _ _). (s : ℕ) → k.floor_of s ≤ fixed.section_size k.sections s) (sym (given _ _ g.S.Seal.seal_of g.I.CodecFixed.SIZE g.D.Device (floors.journal_of c.in_ok-found.found) _ c.init.new.dev c.finish.new.dev (floors.shown c.in_ok-found.found).target c.in_ok-found.ensures.target c.in_ok-index-2.ensures).same) c.in_ok-found.ensures.reached
+    subst (λ (k : Lists _ _). (s : ℕ) → k.floor_of s ≤ fixed.section_size k.sections s) (sym (given _ _ g.S.Seal.seal_of g.I.CodecFixed.SIZE g.D.Device (floors.journal_of c.in_ok-found.found) _ c.init.new.dev c.finish.new.dev (floors.preflight_shown c.in_ok-found.found).target c.in_ok-found.ensures.target c.in_ok-index-2.ensures).same) c.in_ok-found.ensures.reached
 
 pub returns-clause-floors : goal.returns-clause-floors
 returns-clause-floors g c s =
-    let found = floors.shown c.in_ok-found.found in
-    ap (λ (k : Lists _ _). k.floor_of s) (given _ _ g.S.Seal.seal_of g.I.CodecFixed.SIZE g.D.Device (floors.journal_of c.in_ok-found.found) _ c.init.new.dev c.finish.new.dev (floors.shown c.in_ok-found.found).target c.in_ok-found.ensures.target c.in_ok-index-2.ensures).same ∙ floor_given (get nat_cmp c.args.floors.now s) (found.floor_of s) g.I.CodecFixed.SIZE (λ n is. c.in_ok-found.ensures.floors s n is) (λ is. c.in_ok-found.ensures.none s is)
+    let found = floors.preflight_shown c.in_ok-found.found in
+    ap (λ (k : Lists _ _). k.floor_of s) (given _ _ g.S.Seal.seal_of g.I.CodecFixed.SIZE g.D.Device (floors.journal_of c.in_ok-found.found) _ c.init.new.dev c.finish.new.dev (floors.preflight_shown c.in_ok-found.found).target c.in_ok-found.ensures.target c.in_ok-index-2.ensures).same ∙ floor_given (get nat_cmp c.args.floors.now s) (found.floor_of s) g.I.CodecFixed.SIZE (λ n is. c.in_ok-found.ensures.floors s n is) (λ is. c.in_ok-found.ensures.none s is)
 
 pub returns-clause-within : goal.returns-clause-within
 returns-clause-within g c t s n marked some =
     let i : List ℕ = string_bytes c.args.cfg.now.index_partition in
     let a = g.D.Device.time c.args.dev.now in
     let is_i : string_bytes c.in_ok-index.field-0.partition ≡ i = c.in_ok-index.ensures.partition in
-    let found = floors.shown c.in_ok-found.found in
+    let found = floors.preflight_shown c.in_ok-found.found in
     let m = managed.shown c.in_ok-values-2.values.manager in
     let l = layout_for g.I.Record.place g.I.CodecFixed.SIZE g.S.Seal c.args.cfg.now [] in
     ends_within l g.I.Codec.spelling g.I.Codec.accepted g.I.Record.location g.met.I.Record.spelled (get nat_cmp c.args.floors.now) found.boundary_of (disk a) c.in_ok-found.ensures.unmarked c.in_ok-found.ensures.empty
@@ -147,7 +147,7 @@ returns-clause-within g c t s n marked some =
 
 pub returns-clause-index_partition : goal.returns-clause-index_partition
 returns-clause-index_partition g c =
-    ap (λ (k : Lists _ _). k.sections.partition) (given _ _ g.S.Seal.seal_of g.I.CodecFixed.SIZE g.D.Device (floors.journal_of c.in_ok-found.found) _ c.init.new.dev c.finish.new.dev (floors.shown c.in_ok-found.found).target c.in_ok-found.ensures.target c.in_ok-index-2.ensures).same ∙ c.in_ok-found.ensures.partition ∙ c.in_ok-index.ensures.partition
+    ap (λ (k : Lists _ _). k.sections.partition) (given _ _ g.S.Seal.seal_of g.I.CodecFixed.SIZE g.D.Device (floors.journal_of c.in_ok-found.found) _ c.init.new.dev c.finish.new.dev (floors.preflight_shown c.in_ok-found.found).target c.in_ok-found.ensures.target c.in_ok-index-2.ensures).same ∙ c.in_ok-found.ensures.partition ∙ c.in_ok-index.ensures.partition
 
 pub returns-clause-values_partition : goal.returns-clause-values_partition
 returns-clause-values_partition g c =
@@ -155,11 +155,11 @@ returns-clause-values_partition g c =
 
 pub returns-clause-pages : goal.returns-clause-pages
 returns-clause-pages g c =
-    ap (λ (k : Lists (AppendFactory _) _). k.sections.factory.pages) (given _ _ g.S.Seal.seal_of g.I.CodecFixed.SIZE g.D.Device (floors.journal_of c.in_ok-found.found) _ c.init.new.dev c.finish.new.dev (floors.shown c.in_ok-found.found).target c.in_ok-found.ensures.target c.in_ok-index-2.ensures).same ∙ c.in_ok-found.ensures.pages ∙ c.in_ok-index.ensures.pages
+    ap (λ (k : Lists (AppendFactory _) _). k.sections.factory.pages) (given _ _ g.S.Seal.seal_of g.I.CodecFixed.SIZE g.D.Device (floors.journal_of c.in_ok-found.found) _ c.init.new.dev c.finish.new.dev (floors.preflight_shown c.in_ok-found.found).target c.in_ok-found.ensures.target c.in_ok-index-2.ensures).same ∙ c.in_ok-found.ensures.pages ∙ c.in_ok-index.ensures.pages
 
 pub returns-clause-write_buffers : goal.returns-clause-write_buffers
 returns-clause-write_buffers g c =
-    (ap (λ (k : Lists (AppendFactory _) _). k.sections.factory.write_buffer) (given _ _ g.S.Seal.seal_of g.I.CodecFixed.SIZE g.D.Device (floors.journal_of c.in_ok-found.found) _ c.init.new.dev c.finish.new.dev (floors.shown c.in_ok-found.found).target c.in_ok-found.ensures.target c.in_ok-index-2.ensures).same ∙ c.in_ok-found.ensures.write_buffer ∙ c.in_ok-index.ensures.write_buffer, c.in_ok-values-2.ensures.capacity ∙ c.in_ok-values.ensures.write_buffer)
+    (ap (λ (k : Lists (AppendFactory _) _). k.sections.factory.write_buffer) (given _ _ g.S.Seal.seal_of g.I.CodecFixed.SIZE g.D.Device (floors.journal_of c.in_ok-found.found) _ c.init.new.dev c.finish.new.dev (floors.preflight_shown c.in_ok-found.found).target c.in_ok-found.ensures.target c.in_ok-index-2.ensures).same ∙ c.in_ok-found.ensures.write_buffer ∙ c.in_ok-index.ensures.write_buffer, c.in_ok-values-2.ensures.capacity ∙ c.in_ok-values.ensures.write_buffer)
 
 pub returns-clause-codec_config : goal.returns-clause-codec_config
 returns-clause-codec_config g c =
@@ -167,7 +167,7 @@ returns-clause-codec_config g c =
 
 pub returns-clause-bounds : goal.returns-clause-bounds
 returns-clause-bounds g c =
-    (ap (λ (k : Lists _ _). k.sections.floor) (given _ _ g.S.Seal.seal_of g.I.CodecFixed.SIZE g.D.Device (floors.journal_of c.in_ok-found.found) _ c.init.new.dev c.finish.new.dev (floors.shown c.in_ok-found.found).target c.in_ok-found.ensures.target c.in_ok-index-2.ensures).same ∙ c.in_ok-found.ensures.floor, ap (λ (k : Lists _ _). k.sections.ceiling) (given _ _ g.S.Seal.seal_of g.I.CodecFixed.SIZE g.D.Device (floors.journal_of c.in_ok-found.found) _ c.init.new.dev c.finish.new.dev (floors.shown c.in_ok-found.found).target c.in_ok-found.ensures.target c.in_ok-index-2.ensures).same ∙ c.in_ok-found.ensures.ceiling, c.in_ok-values-2.ensures.floor, c.in_ok-values-2.ensures.ceiling)
+    (ap (λ (k : Lists _ _). k.sections.floor) (given _ _ g.S.Seal.seal_of g.I.CodecFixed.SIZE g.D.Device (floors.journal_of c.in_ok-found.found) _ c.init.new.dev c.finish.new.dev (floors.preflight_shown c.in_ok-found.found).target c.in_ok-found.ensures.target c.in_ok-index-2.ensures).same ∙ c.in_ok-found.ensures.floor, ap (λ (k : Lists _ _). k.sections.ceiling) (given _ _ g.S.Seal.seal_of g.I.CodecFixed.SIZE g.D.Device (floors.journal_of c.in_ok-found.found) _ c.init.new.dev c.finish.new.dev (floors.preflight_shown c.in_ok-found.found).target c.in_ok-found.ensures.target c.in_ok-index-2.ensures).same ∙ c.in_ok-found.ensures.ceiling, c.in_ok-values-2.ensures.floor, c.in_ok-values-2.ensures.ceiling)
 
 pub returns-clause-moments : goal.returns-clause-moments
 returns-clause-moments g c t =
@@ -181,7 +181,7 @@ returns-clause-moments g c t =
     let is_v : string_bytes c.in_ok-values.field-0.partition ≡ v = c.in_ok-values.ensures.partition in
     let first : Always a b (Each (IsSettling i (2 ^ 64 - 1) (disk a))) = settling_of (string_bytes c.in_ok-index.field-0.partition) i (2 ^ 64 - 1) (2 ^ 64 - 1) a b is_i refl (c.preflight_floors.ensures.moments t) in
     let second : Always b e (Each (IsSettling v (2 ^ 64 - 1) (disk b))) = settling_of (string_bytes c.in_ok-values.field-0.partition) v (2 ^ 64 - 1) (2 ^ 64 - 1) b e is_v refl (c.init.ensures.moments t) in
-    both_still (2 ^ 64 - 1) i v c.requires.apart a b first e second f (ap g.D.Device.time (given _ _ g.S.Seal.seal_of g.I.CodecFixed.SIZE g.D.Device (floors.journal_of c.in_ok-found.found) _ c.init.new.dev c.finish.new.dev (floors.shown c.in_ok-found.found).target c.in_ok-found.ensures.target c.finish.ensures).unchanged)
+    both_still (2 ^ 64 - 1) i v c.requires.apart a b first e second f (ap g.D.Device.time (given _ _ g.S.Seal.seal_of g.I.CodecFixed.SIZE g.D.Device (floors.journal_of c.in_ok-found.found) _ c.init.new.dev c.finish.new.dev (floors.preflight_shown c.in_ok-found.found).target c.in_ok-found.ensures.target c.finish.ensures).unchanged)
 
 pub returns-clause-entries : goal.returns-clause-entries
 returns-clause-entries g c q not =
@@ -189,14 +189,14 @@ returns-clause-entries g c q not =
     let v : List ℕ = string_bytes c.args.cfg.now.value_partition in
     let is_i : string_bytes c.in_ok-index.field-0.partition ≡ i = c.in_ok-index.ensures.partition in
     let is_v : string_bytes c.in_ok-values.field-0.partition ≡ v = c.in_ok-values.ensures.partition in
-    ap (λ x. g.D.Device.opened x q) (given _ _ g.S.Seal.seal_of g.I.CodecFixed.SIZE g.D.Device (floors.journal_of c.in_ok-found.found) _ c.init.new.dev c.finish.new.dev (floors.shown c.in_ok-found.found).target c.in_ok-found.ensures.target c.finish.ensures).unchanged ∙ c.init.ensures.entries q (λ s le is. (not s (omega (arith, le))).1 (is ∙ named_key (string_bytes c.in_ok-values.field-0.partition) v s is_v)) ∙ c.preflight_floors.ensures.entries q (λ s le is. (not s (omega (arith, le))).0 (is ∙ named_key (string_bytes c.in_ok-index.field-0.partition) i s is_i))
+    ap (λ x. g.D.Device.opened x q) (given _ _ g.S.Seal.seal_of g.I.CodecFixed.SIZE g.D.Device (floors.journal_of c.in_ok-found.found) _ c.init.new.dev c.finish.new.dev (floors.preflight_shown c.in_ok-found.found).target c.in_ok-found.ensures.target c.finish.ensures).unchanged ∙ c.init.ensures.entries q (λ s le is. (not s (omega (arith, le))).1 (is ∙ named_key (string_bytes c.in_ok-values.field-0.partition) v s is_v)) ∙ c.preflight_floors.ensures.entries q (λ s le is. (not s (omega (arith, le))).0 (is ∙ named_key (string_bytes c.in_ok-index.field-0.partition) i s is_i))
 
 pub returns-clause-reads : goal.returns-clause-reads
 returns-clause-reads g c s small =
     let i : List ℕ = string_bytes c.args.cfg.now.index_partition in
     let v : List ℕ = string_bytes c.args.cfg.now.value_partition in
     let is_i : string_bytes c.in_ok-index.field-0.partition ≡ i = c.in_ok-index.ensures.partition in
-    omega (arith, ap reads_of (c.preflight_floors.ensures.entries (section_key v s) (λ q le. keys_apart (string_bytes c.in_ok-index.field-0.partition) v (λ same. c.requires.apart (sym is_i ∙ same)) s q)), c.init.ensures.reads (section_key v s), ap (λ x. reads_of (g.D.Device.opened x (section_key v s))) (given _ _ g.S.Seal.seal_of g.I.CodecFixed.SIZE g.D.Device (floors.journal_of c.in_ok-found.found) _ c.init.new.dev c.finish.new.dev (floors.shown c.in_ok-found.found).target c.in_ok-found.ensures.target c.finish.ensures).unchanged)
+    omega (arith, ap reads_of (c.preflight_floors.ensures.entries (section_key v s) (λ q le. keys_apart (string_bytes c.in_ok-index.field-0.partition) v (λ same. c.requires.apart (sym is_i ∙ same)) s q)), c.init.ensures.reads (section_key v s), ap (λ x. reads_of (g.D.Device.opened x (section_key v s))) (given _ _ g.S.Seal.seal_of g.I.CodecFixed.SIZE g.D.Device (floors.journal_of c.in_ok-found.found) _ c.init.new.dev c.finish.new.dev (floors.preflight_shown c.in_ok-found.found).target c.in_ok-found.ensures.target c.finish.ensures).unchanged)
 
 pub returns-in_err-found-clause-moments : goal.returns-in_err-found-clause-moments
 returns-in_err-found-clause-moments g c t =
@@ -312,7 +312,7 @@ returns-in_err-check_held-clause-moments g c t =
     let is_v : string_bytes c.in_ok-values.field-0.partition ≡ v = c.in_ok-values.ensures.partition in
     let first : Always a b (Each (IsSettling i (2 ^ 64 - 1) (disk a))) = settling_of (string_bytes c.in_ok-index.field-0.partition) i (2 ^ 64 - 1) (2 ^ 64 - 1) a b is_i refl (c.preflight_floors.ensures.moments t) in
     let second : Always b e (Each (IsSettling v (2 ^ 64 - 1) (disk b))) = settling_of (string_bytes c.in_ok-values.field-0.partition) v (2 ^ 64 - 1) (2 ^ 64 - 1) b e is_v refl (c.init.ensures.moments t) in
-    both_still (2 ^ 64 - 1) i v c.requires.apart a b first e second f (ap g.D.Device.time (given _ _ g.S.Seal.seal_of g.I.CodecFixed.SIZE g.D.Device (floors.journal_of c.in_ok-found.found) _ c.init.new.dev c.finish.new.dev (floors.shown c.in_ok-found.found).target c.in_ok-found.ensures.target c.finish.ensures).unchanged)
+    both_still (2 ^ 64 - 1) i v c.requires.apart a b first e second f (ap g.D.Device.time (given _ _ g.S.Seal.seal_of g.I.CodecFixed.SIZE g.D.Device (floors.journal_of c.in_ok-found.found) _ c.init.new.dev c.finish.new.dev (floors.preflight_shown c.in_ok-found.found).target c.in_ok-found.ensures.target c.finish.ensures).unchanged)
 
 pub returns-in_err-check_held-clause-entries : goal.returns-in_err-check_held-clause-entries
 returns-in_err-check_held-clause-entries g c q not =
@@ -320,14 +320,14 @@ returns-in_err-check_held-clause-entries g c q not =
     let v : List ℕ = string_bytes c.args.cfg.now.value_partition in
     let is_i : string_bytes c.in_ok-index.field-0.partition ≡ i = c.in_ok-index.ensures.partition in
     let is_v : string_bytes c.in_ok-values.field-0.partition ≡ v = c.in_ok-values.ensures.partition in
-    ap (λ x. g.D.Device.opened x q) (given _ _ g.S.Seal.seal_of g.I.CodecFixed.SIZE g.D.Device (floors.journal_of c.in_ok-found.found) _ c.init.new.dev c.finish.new.dev (floors.shown c.in_ok-found.found).target c.in_ok-found.ensures.target c.finish.ensures).unchanged ∙ c.init.ensures.entries q (λ s le is. (not s (omega (arith, le))).1 (is ∙ named_key (string_bytes c.in_ok-values.field-0.partition) v s is_v)) ∙ c.preflight_floors.ensures.entries q (λ s le is. (not s (omega (arith, le))).0 (is ∙ named_key (string_bytes c.in_ok-index.field-0.partition) i s is_i))
+    ap (λ x. g.D.Device.opened x q) (given _ _ g.S.Seal.seal_of g.I.CodecFixed.SIZE g.D.Device (floors.journal_of c.in_ok-found.found) _ c.init.new.dev c.finish.new.dev (floors.preflight_shown c.in_ok-found.found).target c.in_ok-found.ensures.target c.finish.ensures).unchanged ∙ c.init.ensures.entries q (λ s le is. (not s (omega (arith, le))).1 (is ∙ named_key (string_bytes c.in_ok-values.field-0.partition) v s is_v)) ∙ c.preflight_floors.ensures.entries q (λ s le is. (not s (omega (arith, le))).0 (is ∙ named_key (string_bytes c.in_ok-index.field-0.partition) i s is_i))
 
 pub returns-in_err-check_held-clause-reads : goal.returns-in_err-check_held-clause-reads
 returns-in_err-check_held-clause-reads g c s small =
     let i : List ℕ = string_bytes c.args.cfg.now.index_partition in
     let v : List ℕ = string_bytes c.args.cfg.now.value_partition in
     let is_i : string_bytes c.in_ok-index.field-0.partition ≡ i = c.in_ok-index.ensures.partition in
-    omega (arith, ap reads_of (c.preflight_floors.ensures.entries (section_key v s) (λ q le. keys_apart (string_bytes c.in_ok-index.field-0.partition) v (λ same. c.requires.apart (sym is_i ∙ same)) s q)), c.init.ensures.reads (section_key v s), ap (λ x. reads_of (g.D.Device.opened x (section_key v s))) (given _ _ g.S.Seal.seal_of g.I.CodecFixed.SIZE g.D.Device (floors.journal_of c.in_ok-found.found) _ c.init.new.dev c.finish.new.dev (floors.shown c.in_ok-found.found).target c.in_ok-found.ensures.target c.finish.ensures).unchanged)
+    omega (arith, ap reads_of (c.preflight_floors.ensures.entries (section_key v s) (λ q le. keys_apart (string_bytes c.in_ok-index.field-0.partition) v (λ same. c.requires.apart (sym is_i ∙ same)) s q)), c.init.ensures.reads (section_key v s), ap (λ x. reads_of (g.D.Device.opened x (section_key v s))) (given _ _ g.S.Seal.seal_of g.I.CodecFixed.SIZE g.D.Device (floors.journal_of c.in_ok-found.found) _ c.init.new.dev c.finish.new.dev (floors.preflight_shown c.in_ok-found.found).target c.in_ok-found.ensures.target c.finish.ensures).unchanged)
 
 pub returns-in_err-found-clause-damage : goal.returns-in_err-found-clause-damage
 returns-in_err-found-clause-damage g c t x has =
@@ -426,7 +426,7 @@ returns-in_err-check_values-clause-damage g c t x has =
     let e = g.D.Device.time c.init.new.dev in
     let is_i : string_bytes c.in_ok-index.field-0.partition ≡ i = c.in_ok-index.ensures.partition in
     let is_v : string_bytes c.in_ok-values.field-0.partition ≡ v = c.in_ok-values.ensures.partition in
-    let found = floors.shown c.in_ok-found.found in
+    let found = floors.preflight_shown c.in_ok-found.found in
     let m = managed.shown c.in_ok-values-2.values.manager in
     let first : Always a b (Each (IsSettling i (2 ^ 64 - 1) (disk a))) = settling_of (string_bytes c.in_ok-index.field-0.partition) i (2 ^ 64 - 1) (2 ^ 64 - 1) a b is_i refl (c.preflight_floors.ensures.moments t) in
     let l = layout_for g.I.Record.place g.I.CodecFixed.SIZE g.S.Seal c.args.cfg.now [] in
@@ -462,7 +462,7 @@ returns-in_err-check_held-clause-damage g c t x has =
     let w = c.in_err-check_held.ensures.absent x (error_back r y is (journal_error.Corruption x) has) in
     let small = c.requires.floors x.section w.0 in
     let held = (c.in_ok-found.ensures.held t x.section small).1 (c.in_ok-found.ensures.there t x.section w.0, omega (arith, small)) in
-    absurd (cc (subst IsSome (subst (λ (k : Lists _ _). k.sections.held x.section ≡ None) (given _ _ g.S.Seal.seal_of g.I.CodecFixed.SIZE g.D.Device (floors.journal_of c.in_ok-found.found) _ c.init.new.dev c.finish.new.dev (floors.shown c.in_ok-found.found).target c.in_ok-found.ensures.target c.in_ok-index-2.ensures).same w.1) held))
+    absurd (cc (subst IsSome (subst (λ (k : Lists _ _). k.sections.held x.section ≡ None) (given _ _ g.S.Seal.seal_of g.I.CodecFixed.SIZE g.D.Device (floors.journal_of c.in_ok-found.found) _ c.init.new.dev c.finish.new.dev (floors.preflight_shown c.in_ok-found.found).target c.in_ok-found.ensures.target c.in_ok-index-2.ensures).same w.1) held))
 
 pub returns-in_err-check_held-clause-refused : goal.returns-in_err-check_held-clause-refused
 returns-in_err-check_held-clause-refused g c t x has =
@@ -494,4 +494,4 @@ returns-clause-foreign g c t name has =
 
 pub returns-clause-index_settled : goal.returns-clause-index_settled
 returns-clause-index_settled g c =
-    subst (λ (k : Lists _ _). (s : ℕ) (u : _) → k.sections.held s ≡ Some u → is_unsettled (page_blob.shown u) ≡ false) (sym (given _ _ g.S.Seal.seal_of g.I.CodecFixed.SIZE g.D.Device (floors.journal_of c.in_ok-found.found) _ c.init.new.dev c.finish.new.dev (floors.shown c.in_ok-found.found).target c.in_ok-found.ensures.target c.in_ok-index-2.ensures).same) c.in_ok-found.ensures.idle
+    subst (λ (k : Lists _ _). (s : ℕ) (u : _) → k.sections.held s ≡ Some u → is_unsettled (page_blob.shown u) ≡ false) (sym (given _ _ g.S.Seal.seal_of g.I.CodecFixed.SIZE g.D.Device (floors.journal_of c.in_ok-found.found) _ c.init.new.dev c.finish.new.dev (floors.preflight_shown c.in_ok-found.found).target c.in_ok-found.ensures.target c.in_ok-index-2.ensures).same) c.in_ok-found.ensures.idle

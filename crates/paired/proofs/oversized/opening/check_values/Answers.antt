@@ -13,11 +13,11 @@ use Rattle.blob_device.proofs.general.Results.{err_of}
 
 pub loop-section-init : goal.loop-section-init
 loop-section-init g c = rw c.into_iter-section-iterator.ensures.into_iter_gives
-    (checking_all (floors.shown c.args.found.now).boundary_of (λ s v. (g.I.Record.location v).0 + (g.I.Record.location v).1 ≤ section_size (managed.shown c.args.values.now.manager) s) c.boundaries-section-items.result c.boundaries-section-items.ensures.each)
+    (checking_all (floors.preflight_shown c.args.found.now).boundary_of (λ s v. (g.I.Record.location v).0 + (g.I.Record.location v).1 ≤ section_size (managed.shown c.args.values.now.manager) s) c.boundaries-section-items.result c.boundaries-section-items.ensures.each)
 
 pub loop-section-preserved : goal.loop-section-preserved
 loop-section-preserved g c =
-    let all = (floors.shown c.args.found.now).boundary_of in
+    let all = (floors.preflight_shown c.args.found.now).boundary_of in
     let step : c.loop-section.section-iterator ≡ (c.in-Some.section, option_copied c.in-Some.last) ∷ c.next.new.self = rest_more _ _ _ c.next.result (c.in-Some.section, c.in-Some.last) c.in-Some.is c.next.ensures.steps in
     checking_more all (λ s v. (g.I.Record.location v).0 + (g.I.Record.location v).1 ≤ section_size (managed.shown c.args.values.now.manager) s) c.in-Some.section (option_copied c.in-Some.last) c.next.new.self
     c.in_ok-check_value.ensures.within (rw step at c.loop-section.invariant)
@@ -25,11 +25,11 @@ loop-section-preserved g c =
 pub returns-clause-within : goal.returns-clause-within
 returns-clause-within g c =
     let none : c.loop-section.section-iterator ≡ [] = rest_all _ _ _ c.next.result c.in-None.is c.next.ensures.steps in
-    checking_none (floors.shown c.args.found.now).boundary_of (λ s v. (g.I.Record.location v).0 + (g.I.Record.location v).1 ≤ section_size (managed.shown c.args.values.now.manager) s) c.loop-section.section-iterator none c.loop-section.invariant
+    checking_none (floors.preflight_shown c.args.found.now).boundary_of (λ s v. (g.I.Record.location v).0 + (g.I.Record.location v).1 ≤ section_size (managed.shown c.args.values.now.manager) s) c.loop-section.section-iterator none c.loop-section.invariant
 
 pub returns-in_err-check_value-clause-damage : goal.returns-in_err-check_value-clause-damage
 returns-in_err-check_value-clause-damage g c x is =
-    let all = (floors.shown c.args.found.now).boundary_of in
+    let all = (floors.preflight_shown c.args.found.now).boundary_of in
     let r = c.from_residual.result in
     let e = c.in_err-check_value.field-0.0 in
     let w = c.in_err-check_value.ensures.damage x (error_back r e (err_of r e c.from_residual.ensures.1) (Corruption x) is) in

@@ -6,4 +6,4 @@ use Rattle.paired.proofs.opening.Lemmas.{Checking}
 use Rattle.paired.proofs.oversized.opening.check_values.Given as goal
 
 abbrev pub invariant-loop-section : goal.invariant-loop-section
-invariant-loop-section g l = Checking (floors.shown l.found).boundary_of (λ s v. (g.I.Record.location v).0 + (g.I.Record.location v).1 ≤ section_size (managed.shown l.values.manager) s) l.section-iterator
+invariant-loop-section g l = Checking (floors.preflight_shown l.found).boundary_of (λ s v. (g.I.Record.location v).0 + (g.I.Record.location v).1 ≤ section_size (managed.shown l.values.manager) s) l.section-iterator

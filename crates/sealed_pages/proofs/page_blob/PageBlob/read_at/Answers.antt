@@ -19,7 +19,7 @@ use Rattle.sealed_pages.specs.SlotNames.{opened_key}
 use Rattle.sealed_pages.specs.View.{view}
 use Rattle.sealed_pages.proofs.memory.Holding.{fit_room}
 use Rattle.sealed_pages.proofs.slots.WholeLemmas.{whole_read}
-use Rattle.sealed_pages.proofs.looking.ReadLemmas.{read_whole, put_tail, front_of, same_error}
+use Rattle.sealed_pages.proofs.looking.ReadLemmas.{read_whole, put_tail, prefix_of, same_error}
 use Rattle.sealed_pages.specs.BlobReads.{ReadsPages}
 use Rattle.sealed_pages.specs.Entries.{IsOpenAt}
 use Rattle.sealed_pages.specs.Cached.{held_in, AreWhole}
@@ -133,9 +133,9 @@ returns g c =
           let long : length c.read_pages.new.out ≡ c.below_tip-below.result = search rules in
           let all : length (c.read_pages.new.out ++ drop c.below_tip-below.result c.try_read_held.new.buf) ≡ length c.try_read_held.new.buf = search rules in
           let rest : length c.copy_held.new.buf ≡ length (c.read_pages.new.out ++ drop c.below_tip-below.result c.try_read_held.new.buf) - c.below_tip-below.result = search rules in
-          let front : take c.below_tip-below.result (c.read_pages.new.out ++ drop c.below_tip-below.result c.try_read_held.new.buf) ≡ c.read_pages.new.out = front_of c.below_tip-below.result c.read_pages.new.out (drop c.below_tip-below.result c.try_read_held.new.buf) long in
+          let prefix : take c.below_tip-below.result (c.read_pages.new.out ++ drop c.below_tip-below.result c.try_read_held.new.buf) ≡ c.read_pages.new.out = prefix_of c.below_tip-below.result c.read_pages.new.out (drop c.below_tip-below.result c.try_read_held.new.buf) long in
           put_tail c.below_tip-below.result (c.read_pages.new.out ++ drop c.below_tip-below.result c.try_read_held.new.buf) c.copy_held.new.buf (omega (arith, wide, all)) rest
-          ∙ ap (λ (l : List ℕ). l ++ c.copy_held.new.buf) front
+          ∙ ap (λ (l : List ℕ). l ++ c.copy_held.new.buf) prefix
           ∙ read_whole c.args.self.now.page_size c.args.self.now.first c.args.offset (length c.try_read_held.new.buf) c.below_tip-below.result (view (disk (g.D.Device.time c.args.dev.now) (key_of (shown c.args.self.now))).content) c.args.self.now.tip.items c.read_pages.new.out c.copy_held.new.buf
           c.below_tip-below.ensures (omega (arith, c.in_ok-check_range.ensures.fits, c.size.ensures, c.try_read_held.auto.buf)) long
           (λ i lt. read.bytes t (cache (omega (arith, lt, c.below_tip-below.ensures, c.try_read_held.auto.buf))) i (omega (arith, lt, long, c.read_pages.auto.out)))

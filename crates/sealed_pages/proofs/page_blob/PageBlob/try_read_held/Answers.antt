@@ -7,7 +7,7 @@ use Rattle.sealed_pages.specs.Shown.{shown}
 use Rattle.sealed_pages.specs.View.{view}
 use Rattle.sealed_pages.proofs.memory.CacheLemmas.{full_whole}
 use Rattle.sealed_pages.proofs.memory.HeldLemmas.{held_to, held_fits}
-use Rattle.sealed_pages.proofs.looking.ReadLemmas.{read_whole, put_tail, front_of, none_taken, refused_range}
+use Rattle.sealed_pages.proofs.looking.ReadLemmas.{read_whole, put_tail, prefix_of, none_taken, refused_range}
 use Rattle.sealed_pages.proofs.page_blob.PageBlob.try_read_held.Goals as goal
 
 in_range : {T E : Type 0} (r : Result T E) (b : Bool) {A : Type 0} → b ≡ is_err r → b ≡ false → OnOk r A → A
@@ -59,9 +59,9 @@ returns g c =
           let xs : List ℕ = c.copy_out.new.out ++ drop c.below_tip-below.result c.args.buf.now in
           let all : length (c.copy_out.new.out ++ drop c.below_tip-below.result c.args.buf.now) ≡ length c.args.buf.now = search rules in
           let rest : length c.copy_held.new.buf ≡ length (c.copy_out.new.out ++ drop c.below_tip-below.result c.args.buf.now) - c.below_tip-below.result = search rules in
-          let front : take c.below_tip-below.result (c.copy_out.new.out ++ drop c.below_tip-below.result c.args.buf.now) ≡ c.copy_out.new.out = front_of c.below_tip-below.result c.copy_out.new.out (drop c.below_tip-below.result c.args.buf.now) long in
+          let prefix : take c.below_tip-below.result (c.copy_out.new.out ++ drop c.below_tip-below.result c.args.buf.now) ≡ c.copy_out.new.out = prefix_of c.below_tip-below.result c.copy_out.new.out (drop c.below_tip-below.result c.args.buf.now) long in
           put_tail c.below_tip-below.result (c.copy_out.new.out ++ drop c.below_tip-below.result c.args.buf.now) c.copy_held.new.buf (omega (arith, wide, all)) rest
-          ∙ ap (λ (l : List ℕ). l ++ c.copy_held.new.buf) front
+          ∙ ap (λ (l : List ℕ). l ++ c.copy_held.new.buf) prefix
           ∙ read_whole c.args.self.now.page_size c.args.self.now.first c.args.offset (length c.args.buf.now) c.below_tip-below.result (view content) c.args.self.now.tip.items c.copy_out.new.out c.copy_held.new.buf
           c.below_tip-below.ensures (omega (arith, fits, c.size.ensures)) long
           (λ i lt. c.copy_out.ensures g.S.Seal.seal_of content (cache (omega (arith, lt, c.below_tip-below.ensures))) i (omega (arith, lt, long, c.copy_out.auto.out)))

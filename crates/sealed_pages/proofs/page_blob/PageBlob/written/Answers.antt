@@ -8,7 +8,7 @@ use Rattle.sealed_pages.proofs.memory.Holding.{fit_places}
 use Rattle.sealed_pages.proofs.TipEnds.{Names, Rest, rest_of, whole_count, whole_fit, flushed_into, tip_failed, tip_written}
 use Rattle.sealed_pages.proofs.page_blob.PageBlob.written.Given as given
 use Rattle.sealed_pages.proofs.page_blob.PageBlob.written.Goals as goal
-use Rattle.sealed_pages.proofs.page_blob.PageBlob.written.Goals.{After-drop_front, After-settled_end}
+use Rattle.sealed_pages.proofs.page_blob.PageBlob.written.Goals.{After-drop_prefix, After-settled_end}
 
 never : (x y : Bool) → (x || y) ≡ false → y ≡ true → ⊥
 never true y clean torn = cc clean
@@ -42,18 +42,18 @@ put_full-requires-clause-fits g c = omega (
 )
 
 -- what is left of the tip
-rest : (g : given.Over) (c : After-drop_front g) → Rest c.args.self.page_size c.args.self.first (c.len.result / c.from-size.result) c.args.self.tip.items c.drop_front.new.tip.items
-rest g c = rest_of c.args.self.page_size c.args.self.first c.from-size.result c.len.result c.args.self.tip.items c.drop_front.new.tip.items c.from-size.ensures (omega (arith, c.args.self.fit.begun)) (search rules) c.drop_front.ensures
+rest : (g : given.Over) (c : After-drop_prefix g) → Rest c.args.self.page_size c.args.self.first (c.len.result / c.from-size.result) c.args.self.tip.items c.drop_prefix.new.tip.items
+rest g c = rest_of c.args.self.page_size c.args.self.first c.from-size.result c.len.result c.args.self.tip.items c.drop_prefix.new.tip.items c.from-size.ensures (omega (arith, c.args.self.fit.begun)) (search rules) c.drop_prefix.ensures
 
 -- the pages that are then in memory
-held : (g : given.Over) (c : After-drop_front g) → held_in c.in_ok-cache.cache ≡ take c.args.self.cache.most (full_pages c.args.self.page_size c.args.self.first (c.len.result / c.from-size.result) c.args.self.tip.items ++ held_in c.args.self.cache)
+held : (g : given.Over) (c : After-drop_prefix g) → held_in c.in_ok-cache.cache ≡ take c.args.self.cache.most (full_pages c.args.self.page_size c.args.self.first (c.len.result / c.from-size.result) c.args.self.tip.items ++ held_in c.args.self.cache)
 held g c =
     let count = whole_count c.args.self.page_size c.from-size.result c.len.result c.args.self.tip.items c.as_slice-2.result.now c.from-size.ensures (search rules) c.as_slice-2.ensures.value in
     c.in_ok-cache.ensures.pages ∙ (λ i. take c.args.self.cache.most (full_pages c.args.self.page_size c.args.self.first (count i) (c.as_slice-2.ensures.value i) ++ held_in c.args.self.cache))
 
 pub invariant_of-result : goal.invariant_of-result
 invariant_of-result g c =
-    let left = rest g (goal.at.invariant_of-result g c).After-drop_front in
+    let left = rest g (goal.at.invariant_of-result g c).After-drop_prefix in
     record {
       fit = record {
         begun = omega (arith, left.short, c.len-from.ensures);
@@ -62,9 +62,9 @@ invariant_of-result g c =
       };
       inside = λ torn. absurd (never c.args.self.behind c.args.self.torn c.requires.clean torn);
       order = omega (arith, c.args.self.order, c.args.self.fit.within, left.far, c.len-from.ensures);
-      full = subst (AreFull c.args.self.page_size (c.args.self.first + c.len.result / c.from-size.result)) (sym (held g (goal.at.invariant_of-result g c).After-drop_front))
+      full = subst (AreFull c.args.self.page_size (c.args.self.first + c.len.result / c.from-size.result)) (sym (held g (goal.at.invariant_of-result g c).After-drop_prefix))
           (full_next c.args.self.page_size c.args.self.first (c.len.result / c.from-size.result) c.args.self.cache.most c.args.self.tip.items (held_in c.args.self.cache) left.full c.args.self.full);
-      few = omega (arith, ap length (held g (goal.at.invariant_of-result g c).After-drop_front), c.in_ok-cache.ensures.most, length-take c.args.self.cache.most (full_pages c.args.self.page_size c.args.self.first (c.len.result / c.from-size.result) c.args.self.tip.items ++ held_in c.args.self.cache));
+      few = omega (arith, ap length (held g (goal.at.invariant_of-result g c).After-drop_prefix), c.in_ok-cache.ensures.most, length-take c.args.self.cache.most (full_pages c.args.self.page_size c.args.self.first (c.len.result / c.from-size.result) c.args.self.tip.items ++ held_in c.args.self.cache));
     }
 
 pub returns-in_err-end : goal.returns-in_err-end
@@ -75,4 +75,4 @@ returns-in_err-cache g c = tip_failed g.D.Device g.S.Seal.seal_of (shown c.args.
 
 pub returns : goal.returns
 returns g c = tip_written g.D.Device g.S.Seal.seal_of (shown c.args.self) c.requires.clean shown _ _ (names g (goal.at.returns g c).After-settled_end) _ _ refl
-    (flushed_into (shown c.args.self) (c.len.result / c.from-size.result) c.in_ok-end.end c.len-from.result c.in_ok-cache.cache.most c.drop_front.new.tip.items (held_in c.in_ok-cache.cache) (rest g (goal.at.returns g c).After-drop_front) (search rules) c.in_ok-cache.ensures.most (held g (goal.at.returns g c).After-drop_front)) c.in_ok-end.ensures
+    (flushed_into (shown c.args.self) (c.len.result / c.from-size.result) c.in_ok-end.end c.len-from.result c.in_ok-cache.cache.most c.drop_prefix.new.tip.items (held_in c.in_ok-cache.cache) (rest g (goal.at.returns g c).After-drop_prefix) (search rules) c.in_ok-cache.ensures.most (held g (goal.at.returns g c).After-drop_prefix)) c.in_ok-end.ensures

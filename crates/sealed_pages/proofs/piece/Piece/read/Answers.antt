@@ -27,9 +27,9 @@ returns g c =
       piece = λ t k has.
           let content = (disk (g.D.Device.time c.args.dev.now) (opened_key c.args.blob.now)).content in
           let most : ℕ = c.min-count.result * (c.from-unit.result + 12) in
-          let whole = with_items_is c.args.self.now.bytes c.read_front.new.buf (c.read_front.auto.buf ∙ c.as_mut_slice-buf.ensures.len) in
+          let whole = with_items_is c.args.self.now.bytes c.read_prefix.new.buf (c.read_prefix.auto.buf ∙ c.as_mut_slice-buf.ensures.len) in
           ap (λ (l : List ℕ). page_of c.args.self.now.page_size (take c.in_ok-self.field-0 l) (k - c.args.page)) whole
-          ∙ span_page c.args.self.now.page_size c.args.page c.min-count.result most k c.in_ok-self.field-0 c.read_front.new.buf content
+          ∙ span_page c.args.self.now.page_size c.args.page c.min-count.result most k c.in_ok-self.field-0 c.read_prefix.new.buf content
           (ap (λ (n : ℕ). c.min-count.result * (n + 12)) c.from-unit.ensures) (c.in_ok-self.ensures.bytes t ∙ ap (λ (x : ℕ). take most (drop x content)) c.page_place-place.ensures) has.0 has.1;
       page = refl;
       page_size = refl;

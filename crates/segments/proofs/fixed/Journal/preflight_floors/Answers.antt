@@ -12,7 +12,7 @@ use Rattle.sealed_pages.specs.declared.page_blob.PageBlob.{PageBlob}
 use Rattle.sealed_pages.specs.declared.pages.Pages.{Pages}
 use Rattle.section_manager.specs.declared.sealed.AppendFactory.{AppendFactory}
 use Rattle.section_manager.specs.Sections.{Sections}
-use Rattle.segments.specs.FixedFloors.{Floors, shown, journal_of}
+use Rattle.segments.specs.FixedFloors.{Floors, preflight_shown, journal_of}
 use Rattle.segments.specs.FixedLists.{Lists}
 use Rattle.segments.proofs.opened.OpenLemmas.{opened_journal}
 use Rattle.segments.proofs.adding.WriteLemmas.{are_pages}
@@ -37,7 +37,7 @@ loop-section-init g c =
     let stage = stage_opened _ _ _ _ _ _ _ _ _ _ _ _ _ c.in_ok-journal.ensures (ap (λ (j : Journals g). j.sections) same) in
     record {
       checked = checked_none g.S.Seal.seal_of g.A.CodecFixed.SIZE g.A.Codec.spelling g.A.Codec.accepted g.D.Device.Tells (string_bytes c.args.cfg.now.partition) c.args.cfg.now.pages c.args.cfg.now.write_buffer c.args.ceiling (get nat_cmp c.args.floors.now) (g.D.Device.time c.args.dev.now)
-          (shown c.unchecked-unchecked.result) (λ s. ap (λ (j : Journals g). j.floor_of s) same ∙ c.in_ok-journal.ensures.floors s) c.unchecked-unchecked.ensures.boundaries stage.opened.place stage.paging stage.buffering stage.ceiling;
+          (preflight_shown c.unchecked-unchecked.result) (λ s. ap (λ (j : Journals g). j.floor_of s) same ∙ c.in_ok-journal.ensures.floors s) c.unchecked-unchecked.ensures.boundaries stage.opened.place stage.paging stage.buffering stage.ceiling;
       stage = stage;
       target = c.unchecked-unchecked.ensures.target;
     }
@@ -58,12 +58,12 @@ loop-section-preserved g c =
     let done = c.loop-section.invariant.checked in
     let checks = c.in_ok-found.ensures in
     record {
-      checked = subst (λ (x : List ℕ). Checked g.S.Seal.seal_of g.A.CodecFixed.SIZE g.A.Codec.spelling g.A.Codec.accepted g.D.Device.Tells (string_bytes c.args.cfg.now.partition) c.args.cfg.now.pages c.args.cfg.now.write_buffer c.args.ceiling (get nat_cmp c.args.floors.now) (g.D.Device.time c.args.dev.now) x (shown c.in_ok-found.found))
+      checked = subst (λ (x : List ℕ). Checked g.S.Seal.seal_of g.A.CodecFixed.SIZE g.A.Codec.spelling g.A.Codec.accepted g.D.Device.Tells (string_bytes c.args.cfg.now.partition) c.args.cfg.now.pages c.args.cfg.now.write_buffer c.args.ceiling (get nat_cmp c.args.floors.now) (g.D.Device.time c.args.dev.now) x (preflight_shown c.in_ok-found.found))
           (sym (numbers_push c.loop-section.yielded (c.in-Some.section, c.in-Some.items)))
           (checked_more _ _ _ _ _ _ _ _ _ _ _ _ _ _ s c.in-Some.items.now is _ stage.moments done
-          (marker_taken _ _ _ _ _ _ _ _ _ _ _ _ _ _ _ _ _ (shown c.loop-section.found) s _ _ _ c.in_ok-found.found stage done.place checks
+          (marker_taken _ _ _ _ _ _ _ _ _ _ _ _ _ _ _ _ _ (preflight_shown c.loop-section.found) s _ _ _ c.in_ok-found.found stage done.place checks
           (ap (λ (m : Held g). m.partition) checks.sections) (ap (λ (m : Held g). m.factory.pages) checks.sections) (ap (λ (m : Held g). m.factory.write_buffer) checks.sections) (ap (λ (m : Held g). m.ceiling) checks.sections)));
-      stage = marker_stage _ _ _ _ _ _ _ _ _ _ _ (get nat_cmp c.args.floors.now) _ _ _ _ _ (shown c.loop-section.found) s _ _ _ _ stage checks refl (c.requires.ceiling s (subst IsSome (sym is) refl)) _ checks.sections;
+      stage = marker_stage _ _ _ _ _ _ _ _ _ _ _ (get nat_cmp c.args.floors.now) _ _ _ _ _ (preflight_shown c.loop-section.found) s _ _ _ _ stage checks refl (c.requires.ceiling s (subst IsSome (sym is) refl)) _ checks.sections;
       target = checks.target ∙ c.loop-section.invariant.target;
     }
 
@@ -74,7 +74,7 @@ pub returns-in_err-found : goal.returns-in_err-found
 returns-in_err-found g c =
     let s = c.in-Some.section.now in
     let is : get nat_cmp c.args.floors.now c.in-Some.section.now ≡ Some c.in-Some.items.now = (btree_map_turn deref_pair c.loop-section.yielded c.into_iter-section-iterator.result c.loop-section.section-iterator c.next.new.self c.next.result (c.in-Some.section, c.in-Some.items) c.loop-section.yielded_by c.in-Some.is c.next.ensures.steps nat_cmp_total c.args.floors.now c.into_iter-section-iterator.ensures.into_iter_gives.0 c.into_iter-section-iterator.ensures.into_iter_gives.5).1 in
-    floors_marker _ _ _ _ _ _ _ _ _ _ _ _ _ _ _ _ _ _ _ (shown c.loop-section.found) _ s _ is _ _ _ c.loop-section.invariant.stage c.loop-section.invariant.checked c.in_err-found.ensures refl (c.requires.ceiling s (subst IsSome (sym is) refl))
+    floors_marker _ _ _ _ _ _ _ _ _ _ _ _ _ _ _ _ _ _ _ (preflight_shown c.loop-section.found) _ s _ is _ _ _ c.loop-section.invariant.stage c.loop-section.invariant.checked c.in_err-found.ensures refl (c.requires.ceiling s (subst IsSome (sym is) refl))
     _ _ (err_of c.from_residual-in_err-found.result _ c.from_residual-in_err-found.ensures.1) refl
     (λ q m t before at. last_taken _ _ _ _ _ _ _ _ _ _ _ _ _ c.loop-section.invariant.checked t q m
     (had_turn c.loop-section.yielded c.into_iter-section-iterator.result c.loop-section.section-iterator c.next.new.self c.next.result (c.in-Some.section, c.in-Some.items) c.loop-section.yielded_by c.in-Some.is c.next.ensures.steps c.args.floors.now
@@ -90,7 +90,7 @@ returns-in_err-owing g c =
       arith,
       c.in_err-owing.ensures.damage x bad,
       reaches g.S.Seal.seal_of g.A.CodecFixed.SIZE g.A.Codec.spelling g.A.Codec.accepted g.D.Device.Tells _ c.args.cfg.now.pages c.args.cfg.now.write_buffer c.args.ceiling (get nat_cmp c.args.floors.now) (g.D.Device.time c.args.dev.now) _ _ (are_pages g.row.S g.S.Seal g.S.Seal-dict) _ _ _ stage.opened stage.moments keys
-          (shown c.loop-section.found) c.loop-section.invariant.checked (all_taken c.args.floors.now keys all) (none_taken c.args.floors.now keys all) c.requires.ceiling c.ranges.ceiling.fits (ap (λ (p : Pages). p.page_size) stage.paging) t x.section,
+          (preflight_shown c.loop-section.found) c.loop-section.invariant.checked (all_taken c.args.floors.now keys all) (none_taken c.args.floors.now keys all) c.requires.ceiling c.ranges.ceiling.fits (ap (λ (p : Pages). p.page_size) stage.paging) t x.section,
     )) c.in_err-owing.ensures.cause
 
 pub returns : goal.returns

@@ -3,7 +3,7 @@ use Rattle.std.proofs.Common.{◌∙◌, refl, sym, ap, subst, arith}
 use Rattle.std.specs.Option.{option_copied}
 use Rattle.blob_device.specs.Disk.{Key}
 use Rattle.blob_device.specs.Timeline.{disk}
-use Rattle.segments.specs.FixedFloors.{Floors, IsAdoptedOver, journal_of, shown}
+use Rattle.segments.specs.FixedFloors.{Floors, IsAdoptedOver, journal_of, preflight_shown}
 use Rattle.segments.proofs.FixedChecksEnds.{looks_own, marker_empty, marker_long, marker_missing, marker_refuses, marker_takes}
 use Rattle.segments.proofs.opened.FloorLemmas.{whole_items}
 use Rattle.segments.proofs.held.Sections.{is_held}
@@ -35,7 +35,7 @@ last_below-requires-clause-adopted g c t =
 pub returns-in_err-item : goal.returns-in_err-item
 returns-in_err-item g c =
     marker_refuses _ _ _ _ _ _ _ _ _ _ _ _ _ _ _ _ _ c.requires.ready (are_pages g.row.S g.S.Seal g.S.Seal-dict) (λ f. refl) (λ u. refl) c.in-Some.buffer.now (sym c.in_ok-buffer.ensures.held ∙ ap option_copied c.in-Some.is) _ _
-    (looks_own (λ (f : Floors g.row.A.Denot). f) (λ f. (journal_of c.args.self).sections) (shown c.args.self).floor_of (shown c.args.self).boundary_of (shown c.args.self).target _ _ _ _ _ _ _ _ _ _ _ _ c.requires.ready (are_pages g.row.S g.S.Seal g.S.Seal-dict) (λ f. refl) (λ u. refl) c.in-Some.buffer.now (sym c.in_ok-buffer.ensures.held ∙ ap option_copied c.in-Some.is) _ _ c.in_err-item.ensures)
+    (looks_own (λ (f : Floors g.row.A.Denot). f) (λ f. (journal_of c.args.self).sections) (preflight_shown c.args.self).floor_of (preflight_shown c.args.self).boundary_of (preflight_shown c.args.self).target _ _ _ _ _ _ _ _ _ _ _ _ c.requires.ready (are_pages g.row.S g.S.Seal g.S.Seal-dict) (λ f. refl) (λ u. refl) c.in-Some.buffer.now (sym c.in_ok-buffer.ensures.held ∙ ap option_copied c.in-Some.is) _ _ c.in_err-item.ensures)
     _ _ (err_of c.from_residual-in_err-item.result _ c.from_residual-in_err-item.ensures.1) refl
 
 pub with_floor-requires-2-clause-whole : goal.with_floor-requires-2-clause-whole
@@ -44,5 +44,5 @@ with_floor-requires-2-clause-whole g c = whole_items c.args.items g.A.CodecFixed
 pub returns : goal.returns
 returns g c =
     marker_takes _ _ _ _ _ _ _ _ _ _ _ _ _ _ _ _ _ c.requires.ready (are_pages g.row.S g.S.Seal g.S.Seal-dict) (λ f. refl) (λ u. refl) c.in-Some.buffer.now (sym c.in_ok-buffer.ensures.held ∙ ap option_copied c.in-Some.is) _ _
-    (looks_own (λ (f : Floors g.row.A.Denot). f) (λ f. (journal_of c.args.self).sections) (shown c.args.self).floor_of (shown c.args.self).boundary_of (shown c.args.self).target _ _ _ _ _ _ _ _ _ _ _ _ c.requires.ready (are_pages g.row.S g.S.Seal g.S.Seal-dict) (λ f. refl) (λ u. refl) c.in-Some.buffer.now (sym c.in_ok-buffer.ensures.held ∙ ap option_copied c.in-Some.is) _ _ c.in_ok-item.ensures)
+    (looks_own (λ (f : Floors g.row.A.Denot). f) (λ f. (journal_of c.args.self).sections) (preflight_shown c.args.self).floor_of (preflight_shown c.args.self).boundary_of (preflight_shown c.args.self).target _ _ _ _ _ _ _ _ _ _ _ _ c.requires.ready (are_pages g.row.S g.S.Seal g.S.Seal-dict) (λ f. refl) (λ u. refl) c.in-Some.buffer.now (sym c.in_ok-buffer.ensures.held ∙ ap option_copied c.in-Some.is) _ _ c.in_ok-item.ensures)
     _ _ _ refl (omega (arith, c.if-items-eq0.false)) (is_held (journal_of c.args.self).sections c.args.section c.in-Some.buffer.now (sym c.in_ok-buffer.ensures.held ∙ ap option_copied c.in-Some.is)) c.ranges.section.fits c.in_ok-floor.ensures.bytes c.with_floor-2.ensures

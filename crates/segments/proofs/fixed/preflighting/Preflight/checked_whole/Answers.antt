@@ -1,7 +1,7 @@
 use Rattle.std.proofs.Common.{◌≡◌, ◌∙◌, ◌/◌, ◌*◌, ◌<◌, ℕ, inr, refl, sym, ap, arith}
 use Rattle.blob_device.specs.Timeline.{disk}
 use Rattle.segments.specs.FixedBounds.{whole_of}
-use Rattle.segments.specs.FixedFloors.{shown, journal_of}
+use Rattle.segments.specs.FixedFloors.{preflight_shown, journal_of}
 use Rattle.segments.specs.FixedLists.{section_size}
 use Rattle.segments.proofs.opened.BoundLemmas.{size_is}
 use Rattle.segments.proofs.checkpoint.Checking.{looks_partial, whole_looks, adopted_here, named_below, passes_below, boundary_earlier, whole_count, size_small}
@@ -26,7 +26,7 @@ returns-in_err-check_whole g c at bytes done less named had =
     (λ t. boundary_earlier g.S.Seal.seal_of m.factory.pages.page_size g.A.CodecFixed.SIZE m.partition at bytes (disk (g.D.Device.time c.args.dev.now)) s less
     ∙ adopted_here g.S.Seal.seal_of _ _ (are_pages g.row.S g.S.Seal g.S.Seal-dict) g.D.Device.Tells m (g.D.Device.opened c.args.dev.now) (disk (g.D.Device.time c.args.dev.now)) c.requires.ready.over (c.requires.ready.adopted t) s c.requires.is_held ∙ sym here)
     (λ t. inr (less, ((c.requires.ready.held t s small).0 c.requires.is_held).0))
-    (λ t. passes_below g.S.Seal.seal_of m.factory.pages.page_size g.A.CodecFixed.SIZE m.partition at bytes g.A.Codec.spelling g.A.Codec.accepted g.D.Device.Tells (shown c.args.self) (disk (g.D.Device.time c.args.dev.now)) s
+    (λ t. passes_below g.S.Seal.seal_of m.factory.pages.page_size g.A.CodecFixed.SIZE m.partition at bytes g.A.Codec.spelling g.A.Codec.accepted g.D.Device.Tells (preflight_shown c.args.self) (disk (g.D.Device.time c.args.dev.now)) s
     (named_below g.S.Seal.seal_of _ _ (are_pages g.row.S g.S.Seal g.S.Seal-dict) g.D.Device.Tells m (g.D.Device.opened c.args.dev.now) (disk (g.D.Device.time c.args.dev.now)) c.requires.ready.over
     m.factory.pages.page_size g.A.CodecFixed.SIZE at bytes m.ceiling s done less (c.requires.ready.over.opened_list.to_ceiling s c.requires.is_held) small (c.requires.ready.held t) named) t had.checked)
     c.requires.ready.over
@@ -43,7 +43,7 @@ returns g c at bytes done less named had =
     ap (λ (k : ℕ). c.in_ok-size.size / k * g.A.CodecFixed.SIZE) c.SIZE.ensures ∙ whole_count n g.A.CodecFixed.SIZE g.met.A.CodecFixed.fixed.at_least c.in_ok-check_whole.ensures.whole in
     let bound = size_small m s c.requires.is_held in
     whole_looks g.S.Seal.seal_of m.factory.pages.page_size g.A.CodecFixed.SIZE m.partition at bytes g.A.Codec.spelling g.A.Codec.accepted g.A.Codec.refusal g.D.Device _ _ m
-    shown (λ r. (journal_of r).sections) (shown c.args.self) s (c.in_ok-size.size / c.SIZE.result) c.args.dev.now c.checked.new.dev c.checked.result done m
+    preflight_shown (λ r. (journal_of r).sections) (preflight_shown c.args.self) s (c.in_ok-size.size / c.SIZE.result) c.args.dev.now c.checked.new.dev c.checked.result done m
     f g.met.A.CodecFixed.fixed.at_least (omega (arith, count, here, bound)) refl less c.requires.is_held
     (λ t. adopted_here g.S.Seal.seal_of _ _ (are_pages g.row.S g.S.Seal g.S.Seal-dict) g.D.Device.Tells m (g.D.Device.opened c.args.dev.now) (disk (g.D.Device.time c.args.dev.now)) c.requires.ready.over (c.requires.ready.adopted t) s c.requires.is_held ∙ sym here ∙ sym count)
     (λ t. ((c.requires.ready.held t s small).0 c.requires.is_held).0)

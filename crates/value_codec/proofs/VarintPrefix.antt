@@ -1,4 +1,4 @@
--- The function that gives the number at the front of some bytes says what the grammar says.
+-- The function that gives the number at the start of some bytes says what the grammar says.
 use Rattle.std.proofs.Common.{◌≡◌, ℕ, ◌<◌, ◌≤◌, List, [], ◌∷◌, ◌++◌, length, take, drop, nat_lt, nat_le, Bool, true, false, ◌&&◌, Decides, if◌then◌else◌, Result, Ok, Err, IfOk, IfErr, arith, refl, sym, ap, ◌∙◌, subst, inl, inr, take-append-drop, length-append, length-take-le, true≢false}
 use Rattle.std.proofs.Math.Seq.{take-append_seam}
 use Rattle.std.specs.List.{list_all}
@@ -9,20 +9,20 @@ use Rattle.std.proofs.lemmas.List.Sums.{AllPass-from_list_all, list_all-from_All
 use Rattle.std.proofs.lemmas.Slice.Eq.{bytes_eq-Decides}
 use Rattle.value_codec.specs.declared.codec.Error.{Error}
 use Rattle.value_codec.specs.declared.codec.Error.TheVariants.{EndOfBuffer, InvalidVarint}
-use Rattle.value_codec.specs.Varint.{IsVarint, varint, BeginsWithVarint, BeginsWithNone, IsCutShort, IsWhyNone, base128, front, is_cut_short, is_varint, varint_front}
+use Rattle.value_codec.specs.Varint.{IsVarint, varint, BeginsWithVarint, BeginsWithNone, IsCutShort, IsWhyNone, base128, prefix_bytes, is_cut_short, is_varint, varint_prefix}
 use Rattle.value_codec.proofs.VarintLemmas.{varint_spells, varint_only, cut_none}
 
-front-last : (b : ℕ) (bs : List ℕ) → b < 128 → front (b ∷ bs) ≡ b ∷ []
-front-last b bs last = grind (arith, nat_tests)
+prefix-last : (b : ℕ) (bs : List ℕ) → b < 128 → prefix_bytes (b ∷ bs) ≡ b ∷ []
+prefix-last b bs last = grind (arith, nat_tests)
 
-front-more : (b : ℕ) (bs : List ℕ) → 128 ≤ b → front (b ∷ bs) ≡ b ∷ front bs
-front-more b bs more = grind (arith, nat_tests)
+prefix-more : (b : ℕ) (bs : List ℕ) → 128 ≤ b → prefix_bytes (b ∷ bs) ≡ b ∷ prefix_bytes bs
+prefix-more b bs more = grind (arith, nat_tests)
 
 -- a varint ends at its first byte that asks for no more
-front-varint : (a x : List ℕ) (n : ℕ) → IsVarint a n → front (a ++ x) ≡ a
-front-varint [] x n spelled = absurd spelled
-front-varint (b ∷ []) x n spelled = front-last b x spelled.0
-front-varint (b ∷ c ∷ a) x n spelled = front-more b ((c ∷ a) ++ x) spelled.0 ∙ ap (λ z. b ∷ z) (front-varint (c ∷ a) x spelled.2 spelled.5)
+prefix-varint : (a x : List ℕ) (n : ℕ) → IsVarint a n → prefix_bytes (a ++ x) ≡ a
+prefix-varint [] x n spelled = absurd spelled
+prefix-varint (b ∷ []) x n spelled = prefix-last b x spelled.0
+prefix-varint (b ∷ c ∷ a) x n spelled = prefix-more b ((c ∷ a) ++ x) spelled.0 ∙ ap (λ z. b ∷ z) (prefix-varint (c ∷ a) x spelled.2 spelled.5)
 
 -- and is worth its number
 base128-varint : (a : List ℕ) (n : ℕ) → IsVarint a n → base128 a ≡ n
@@ -30,12 +30,12 @@ base128-varint [] n spelled = absurd spelled
 base128-varint (b ∷ []) n spelled = omega (arith, spelled.0, spelled.1)
 base128-varint (b ∷ c ∷ a) n spelled = omega (arith, base128-varint (c ∷ a) spelled.2 spelled.5, spelled.0, spelled.1, spelled.4)
 
-front-take : (bytes : List ℕ) → front bytes ≡ take (length (front bytes)) bytes
-front-take [] = refl
-front-take (b ∷ bytes) =
+prefix-take : (bytes : List ℕ) → prefix_bytes bytes ≡ take (length (prefix_bytes bytes)) bytes
+prefix-take [] = refl
+prefix-take (b ∷ bytes) =
     elim (cases_lt b 128) [
-      | inl last ↦ subst (λ z. z ≡ take (length z) (b ∷ bytes)) (sym (front-last b bytes last)) refl
-      | inr more ↦ subst (λ z. z ≡ take (length z) (b ∷ bytes)) (sym (front-more b bytes more)) (ap (λ z. b ∷ z) (front-take bytes))
+      | inl last ↦ subst (λ z. z ≡ take (length z) (b ∷ bytes)) (sym (prefix-last b bytes last)) refl
+      | inr more ↦ subst (λ z. z ≡ take (length z) (b ∷ bytes)) (sym (prefix-more b bytes more)) (ap (λ z. b ∷ z) (prefix-take bytes))
     ]
 
 from_le : (x : ℕ) → nat_le 128 x ≡ true → 128 ≤ x
@@ -92,59 +92,59 @@ pick_third false true x y z is is' = absurd (true≢false is')
 pick_third false false x y z is is' = refl
 
 -- bytes that are cut short
-front_cut : (limit longest : ℕ) (bytes : List ℕ) → IsCutShort longest bytes → varint_front limit longest bytes ≡ Err EndOfBuffer
-unfolding varint_front
-front_cut limit longest bytes cut =
-    pick_first (is_cut_short longest bytes) (is_varint limit (front bytes)) _ _ _ ((cut_decided longest bytes).1 cut)
+prefix_cut : (limit longest : ℕ) (bytes : List ℕ) → IsCutShort longest bytes → varint_prefix limit longest bytes ≡ Err EndOfBuffer
+unfolding varint_prefix
+prefix_cut limit longest bytes cut =
+    pick_first (is_cut_short longest bytes) (is_varint limit (prefix_bytes bytes)) _ _ _ ((cut_decided longest bytes).1 cut)
 
 -- bytes that begin with a number
-front_found : (limit longest : ℕ) (bytes : List ℕ) (n len : ℕ) → BeginsWithVarint limit bytes n len
-    → varint_front limit longest bytes ≡ Ok (n, len)
-unfolding varint_front
-front_found limit longest bytes n len found =
-    let is : front bytes ≡ take len bytes =
-    ap front (sym (take-append-drop len bytes)) ∙ front-varint (take len bytes) (drop len bytes) n found.spelled in
-    let worth : base128 (front bytes) ≡ n = ap base128 is ∙ base128-varint (take len bytes) n found.spelled in
-    let spelled : varint (base128 (front bytes)) ≡ front bytes =
+prefix_found : (limit longest : ℕ) (bytes : List ℕ) (n len : ℕ) → BeginsWithVarint limit bytes n len
+    → varint_prefix limit longest bytes ≡ Ok (n, len)
+unfolding varint_prefix
+prefix_found limit longest bytes n len found =
+    let is : prefix_bytes bytes ≡ take len bytes =
+    ap prefix_bytes (sym (take-append-drop len bytes)) ∙ prefix-varint (take len bytes) (drop len bytes) n found.spelled in
+    let worth : base128 (prefix_bytes bytes) ≡ n = ap base128 is ∙ base128-varint (take len bytes) n found.spelled in
+    let spelled : varint (base128 (prefix_bytes bytes)) ≡ prefix_bytes bytes =
     ap varint worth ∙ sym (varint_only (take len bytes) n found.spelled) ∙ sym is in
-    let size : length (front bytes) ≡ len = ap length is ∙ length-take-le len bytes found.within in
-    let below : base128 (front bytes) < limit = omega (arith, worth, found.in_range) in
-    pick_second (is_cut_short longest bytes) (is_varint limit (front bytes)) _ _ _
+    let size : length (prefix_bytes bytes) ≡ len = ap length is ∙ length-take-le len bytes found.within in
+    let below : base128 (prefix_bytes bytes) < limit = omega (arith, worth, found.in_range) in
+    pick_second (is_cut_short longest bytes) (is_varint limit (prefix_bytes bytes)) _ _ _
     (unless _ (cut_decided longest bytes) (λ cut. cut_none bytes n len cut.goes_on found.spelled))
-    ((varint_decided limit (front bytes)).1 (below, spelled))
+    ((varint_decided limit (prefix_bytes bytes)).1 (below, spelled))
     ∙ (λ i. Ok (worth i, size i))
 
 -- bytes that begin with none
-front_none : (limit longest : ℕ) (bytes : List ℕ) → (IsCutShort longest bytes → ⊥) → BeginsWithNone limit bytes
-    → varint_front limit longest bytes ≡ Err InvalidVarint
-unfolding varint_front
-front_none limit longest bytes whole none =
-    pick_third (is_cut_short longest bytes) (is_varint limit (front bytes)) _ _ _
+prefix_none : (limit longest : ℕ) (bytes : List ℕ) → (IsCutShort longest bytes → ⊥) → BeginsWithNone limit bytes
+    → varint_prefix limit longest bytes ≡ Err InvalidVarint
+unfolding varint_prefix
+prefix_none limit longest bytes whole none =
+    pick_third (is_cut_short longest bytes) (is_varint limit (prefix_bytes bytes)) _ _ _
     (unless _ (cut_decided longest bytes) whole)
-    (unless _ (varint_decided limit (front bytes)) (λ is.
-    none (base128 (front bytes)) (length (front bytes)) is.0
-    (subst (λ z. IsVarint z (base128 (front bytes))) (is.1 ∙ front-take bytes) (varint_spells (base128 (front bytes))))))
+    (unless _ (varint_decided limit (prefix_bytes bytes)) (λ is.
+    none (base128 (prefix_bytes bytes)) (length (prefix_bytes bytes)) is.0
+    (subst (λ z. IsVarint z (base128 (prefix_bytes bytes))) (is.1 ∙ prefix-take bytes) (varint_spells (base128 (prefix_bytes bytes))))))
 
 -- what reading answers by the grammar is what the function gives
-pub front_exact : (limit longest : ℕ) (bytes : List ℕ) (outcome : Result (ℕ × ℕ) Error)
+pub prefix_exact : (limit longest : ℕ) (bytes : List ℕ) (outcome : Result (ℕ × ℕ) Error)
     → IfOk outcome (λ it. BeginsWithVarint limit bytes it.0 it.1)
     → (IsCutShort longest bytes → outcome ≡ Err EndOfBuffer)
     → IfErr outcome (IsWhyNone limit longest bytes)
-    → outcome ≡ varint_front limit longest bytes
-front_exact limit longest bytes (Ok it) found cut refused = sym (front_found limit longest bytes it.0 it.1 found)
-front_exact limit longest bytes (Err e) found cut refused =
+    → outcome ≡ varint_prefix limit longest bytes
+prefix_exact limit longest bytes (Ok it) found cut refused = sym (prefix_found limit longest bytes it.0 it.1 found)
+prefix_exact limit longest bytes (Err e) found cut refused =
     elim refused [
-      | inl short ↦ ap (λ z. Err z) short.0 ∙ sym (front_cut limit longest bytes short.1)
-      | inr none ↦ ap (λ z. Err z) none.0 ∙ sym (front_none limit longest bytes (λ short. apart e (cut short) none.0) none.1)
+      | inl short ↦ ap (λ z. Err z) short.0 ∙ sym (prefix_cut limit longest bytes short.1)
+      | inr none ↦ ap (λ z. Err z) none.0 ∙ sym (prefix_none limit longest bytes (λ short. apart e (cut short) none.0) none.1)
     ]
   where
     apart : (e : Error) → ◌≡◌ {A = Result (ℕ × ℕ) Error} (Err e) (Err EndOfBuffer) → e ≡ InvalidVarint → ⊥
     apart e one other = cc
 
 -- a number's varint, with anything behind it
-pub front_gives : (limit longest n : ℕ) (rest : List ℕ) → n < limit → varint_front limit longest (varint n ++ rest) ≡ Ok (n, length (varint n))
-front_gives limit longest n rest below =
-    front_found limit longest (varint n ++ rest) n (length (varint n)) (record {
+pub prefix_gives : (limit longest n : ℕ) (rest : List ℕ) → n < limit → varint_prefix limit longest (varint n ++ rest) ≡ Ok (n, length (varint n))
+prefix_gives limit longest n rest below =
+    prefix_found limit longest (varint n ++ rest) n (length (varint n)) (record {
       within = omega (arith, length-append (varint n) rest);
       spelled = subst (λ z. IsVarint z n) (sym (take-append_seam (varint n) rest)) (varint_spells n);
       in_range = below;

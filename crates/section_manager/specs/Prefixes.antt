@@ -2,5 +2,5 @@
 use Rattle.std.specs.Prelude.{◌≡◌, ℕ, List, length, take}
 
 -- c begins with these bytes
-abbrev pub IsFront : List ℕ → List ℕ → Type 0
-IsFront kept c = take (length kept) c ≡ kept
+abbrev pub IsPrefixOf : List ℕ → List ℕ → Type 0
+IsPrefixOf kept c = take (length kept) c ≡ kept
