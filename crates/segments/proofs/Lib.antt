@@ -1,10 +1,3 @@
-pub mod FixedChecksEnds
-pub mod FixedFills
-pub mod FixedLending
-pub mod FixedLentReaders
-pub mod FixedMarkers
-pub mod FixedStages
-pub mod FixedStepsOn
 pub mod adding
 pub mod checkpoint
 pub mod cutting

@@ -1,5 +1,6 @@
 pub mod AsBefore
 pub mod Checking
+pub mod ChecksEnds
 pub mod Earlier
 pub mod Found
 pub mod Prefixes

@@ -1,4 +1,6 @@
 pub mod Buffers
 pub mod Calls
+pub mod Lending
+pub mod LentReaders
 pub mod Passing
 pub mod Sections

@@ -4,5 +4,7 @@ pub mod BoundsEnds
 pub mod Drained
 pub mod DrainedEnds
 pub mod FloorLemmas
+pub mod Markers
 pub mod OpenLemmas
 pub mod Opens
+pub mod Stages

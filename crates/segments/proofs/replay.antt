@@ -7,6 +7,7 @@ pub mod Ending
 pub mod Ends
 pub mod ErrorSteps
 pub mod Filling
+pub mod Fills
 pub mod Given
 pub mod Going
 pub mod Kept
@@ -16,6 +17,7 @@ pub mod Reading
 pub mod Running
 pub mod Shortening
 pub mod Steps
+pub mod StepsOn
 pub mod Stopping
 pub mod Walks
 pub mod WalksOn

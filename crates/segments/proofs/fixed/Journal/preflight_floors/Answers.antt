@@ -17,8 +17,8 @@ use Rattle.segments.specs.FixedLists.{Lists}
 use Rattle.segments.proofs.opened.OpenLemmas.{opened_journal}
 use Rattle.segments.proofs.adding.WriteLemmas.{are_pages}
 use Rattle.segments.proofs.opened.FloorLemmas.{Checked, checked_none, checked_more, reaches, within, last_taken}
-use Rattle.segments.proofs.FixedMarkers.{floors_opening, floors_owing, floors_marker, marker_stage, marker_taken, all_taken, none_taken}
-use Rattle.segments.proofs.FixedStages.{stage_opened, stage_same, stage_checkable}
+use Rattle.segments.proofs.opened.Markers.{floors_opening, floors_owing, floors_marker, marker_stage, marker_taken, all_taken, none_taken}
+use Rattle.segments.proofs.opened.Stages.{stage_opened, stage_same, stage_checkable}
 use Rattle.segments.proofs.fixed.Journal.preflight_floors.Given.{Over}
 use Rattle.segments.proofs.fixed.Journal.preflight_floors.Goals as goal
 use Rattle.blob_device.proofs.general.Maps.{had_turn, numbers_of, numbers_push, numbers_shown}

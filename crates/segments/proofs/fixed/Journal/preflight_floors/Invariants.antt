@@ -5,7 +5,7 @@ use Rattle.section_manager.specs.contracts.sealed.PageBlobSectionBuffer.TheImpl.
 use Rattle.section_manager.specs.declared.sealed.AppendFactory.{AppendFactory}
 use Rattle.segments.specs.FixedFloors.{preflight_shown, journal_of}
 use Rattle.segments.proofs.opened.FloorLemmas.{Checked}
-use Rattle.segments.proofs.FixedStages.{Stage}
+use Rattle.segments.proofs.opened.Stages.{Stage}
 use Rattle.segments.proofs.fixed.Journal.preflight_floors.Given as goal
 use Rattle.blob_device.proofs.general.Maps.{numbers_of}
 

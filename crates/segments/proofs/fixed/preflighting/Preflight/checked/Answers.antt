@@ -4,7 +4,7 @@ use Rattle.std.specs.Option.{option_copied}
 use Rattle.blob_device.specs.Disk.{Key}
 use Rattle.blob_device.specs.Timeline.{disk}
 use Rattle.segments.specs.FixedFloors.{Floors, IsAdoptedOver, journal_of, preflight_shown}
-use Rattle.segments.proofs.FixedChecksEnds.{looks_own, marker_empty, marker_long, marker_missing, marker_refuses, marker_takes}
+use Rattle.segments.proofs.checkpoint.ChecksEnds.{looks_own, marker_empty, marker_long, marker_missing, marker_refuses, marker_takes}
 use Rattle.segments.proofs.opened.FloorLemmas.{whole_items}
 use Rattle.segments.proofs.held.Sections.{is_held}
 use Rattle.segments.proofs.adding.WriteLemmas.{are_pages}

@@ -6,7 +6,7 @@ use Rattle.sealed_pages.specs.Shown.{shown}
 use Rattle.section_manager.specs.declared.journal.Damage.{Damage}
 use Rattle.section_manager.specs.lemmas.Seen.{raised_failed}
 use Rattle.segments.specs.FixedFloors.{IsUnsealed}
-use Rattle.segments.proofs.FixedChecksEnds.{looks_failed}
+use Rattle.segments.proofs.checkpoint.ChecksEnds.{looks_failed}
 use Rattle.segments.proofs.opened.FloorLemmas.{unsealed_less}
 use Rattle.segments.proofs.fixed.preflighting.Preflight.refuse.Goals as goal
 use Rattle.blob_device.proofs.general.Results.{err_of}

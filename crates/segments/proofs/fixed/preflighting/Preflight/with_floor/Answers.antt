@@ -3,7 +3,7 @@ use Rattle.std.specs.Option.{unwrap_or}
 use Rattle.std.proofs.lemmas.Bool.{false_from_ne_true}
 use Rattle.std.specs.BTreeMap.{get, is_at}
 use Rattle.std.specs.Ordering.{nat_cmp}
-use Rattle.segments.proofs.FixedChecksEnds.{floor_failed}
+use Rattle.segments.proofs.checkpoint.ChecksEnds.{floor_failed}
 use Rattle.segments.proofs.opened.FloorLemmas.{floors_have}
 use Rattle.segments.proofs.fixed.preflighting.Preflight.with_floor.Goals as goal
 use Rattle.blob_device.proofs.general.Numbers.{same_number}

@@ -7,7 +7,7 @@ use Rattle.sealed_pages.proofs.memory.Holding.{fit_size}
 use Rattle.section_manager.specs.managing.Managed as manager
 use Rattle.section_manager.proofs.sections.OverLemmas.{same_key}
 use Rattle.segments.specs.FixedWalking.{walk_of}
-use Rattle.segments.proofs.FixedLending.{cut_untaken, cut_failed, cut_refused, cut_done}
+use Rattle.segments.proofs.held.Lending.{cut_untaken, cut_failed, cut_refused, cut_done}
 use Rattle.segments.proofs.adding.WriteLemmas.{are_pages}
 use Rattle.segments.proofs.fixed.replaying.Replay.cut.Goals as goal
 use Rattle.blob_device.proofs.general.Options.{some_of}

@@ -7,7 +7,7 @@ use Rattle.section_manager.specs.declared.journal.Error.TheVariants.{ItemOutOfRa
 use Rattle.segments.specs.FixedReplay.{Place, Walk}
 use Rattle.segments.specs.FixedWalking.{walk_of, place_of}
 use Rattle.segments.proofs.replay.Filling.{none_some}
-use Rattle.segments.proofs.FixedFills.{back, there, place_small, ends_cut, ends_refused, ends_whole}
+use Rattle.segments.proofs.replay.Fills.{back, there, place_small, ends_cut, ends_refused, ends_whole}
 use Rattle.segments.proofs.replay.Going.{ends_as, if_some_at}
 use Rattle.segments.proofs.replay.Opening.{first_here}
 use Rattle.segments.proofs.fixed.replaying.Replay.end.Goals as goal

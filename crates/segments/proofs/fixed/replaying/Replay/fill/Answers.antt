@@ -9,7 +9,7 @@ use Rattle.segments.specs.FixedWalking.{walk_of, place_of}
 use Rattle.segments.specs.lemmas.FixedErrors.{runtime_of}
 use Rattle.segments.proofs.replay.ErrorSteps.{raised_cut}
 use Rattle.segments.proofs.replay.Filling.{page_alone, none_some}
-use Rattle.segments.proofs.FixedFills.{place_open, fills_read, fills_owed, fills_free, fills_failed}
+use Rattle.segments.proofs.replay.Fills.{place_open, fills_read, fills_owed, fills_free, fills_failed}
 use Rattle.segments.proofs.fixed.replaying.Replay.fill.Goals as goal
 
 pub ensure-requires : goal.ensure-requires

@@ -3,7 +3,7 @@ use Rattle.std.specs.Prelude.{◌≡◌, Bool, false, Option, Some, None, IsSome
 use Rattle.std.specs.Option.{option_map}
 use Rattle.std.proofs.Common.{refl, sym, ◌∙◌, ap, subst, arith, length-drop}
 use Rattle.segments.specs.FixedWalking.{walk_of, place_of}
-use Rattle.segments.proofs.FixedStepsOn.{step_unfilled, mid_over, mid_going, mid_stands, mid_last, step_ended, mid_hand, mid_room, step_taken}
+use Rattle.segments.proofs.replay.StepsOn.{step_unfilled, mid_over, mid_going, mid_stands, mid_last, step_ended, mid_hand, mid_room, step_taken}
 use Rattle.segments.proofs.fixed.replaying.Replay.step.Goals as goal
 use Rattle.blob_device.proofs.general.Results.{err_of}
 

@@ -21,7 +21,7 @@ use Rattle.segments.specs.FixedCursor.{Fills, leaving}
 use Rattle.segments.specs.FixedItems.{IsItem}
 use Rattle.segments.specs.FixedReplay.{Place, Walk, IsWalk, first_of, kept_bytes}
 use Rattle.segments.specs.FixedStepping.{standing, after_item, Steps}
-use Rattle.segments.proofs.FixedFills.{back, there}
+use Rattle.segments.proofs.replay.Fills.{back, there}
 use Rattle.segments.proofs.replay.Going.{going_filled, hand_filled, last_filled, stands_filled, step_filled, step_stopped}
 use Rattle.segments.proofs.replay.Reading.{here, item_steps}
 use Rattle.segments.proofs.replay.Running.{steps_same}

@@ -32,7 +32,7 @@ use Rattle.segments.proofs.held.Buffers.{flushed_at}
 use Rattle.segments.proofs.held.Calls.{flush_stands}
 use Rattle.segments.proofs.replay.Counts.{no_reads}
 use Rattle.segments.proofs.replay.ErrorSteps.{raised_failed}
-use Rattle.segments.proofs.FixedLending.{AreAlike, own_key, own_stands, page_touches, page_steps, taken_same, touched_none, touched_out, touched_back}
+use Rattle.segments.proofs.held.Lending.{AreAlike, own_key, own_stands, page_touches, page_steps, taken_same, touched_none, touched_out, touched_back}
 use Rattle.segments.proofs.adding.WriteLemmas.{ArePages}
 use Rattle.blob_device.proofs.general.Options.{same_some}
 
