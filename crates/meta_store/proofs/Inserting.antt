@@ -19,7 +19,6 @@ use Rattle.meta_store.specs.Lends.{WroteValue, SameMap}
 use Rattle.meta_store.proofs.Ascending.{sorted_below, keys_append}
 
 module _ {K V : Type 0} (R : K → K → Ordering) where
-
   -- a key that is above all goes to the end
   inserted_above : (o : IsTotalOrder R) (es : List (K × V)) (k : K) (v : V) → AllByRecursion (λ j. R j k ≡ Less) (keys_of es) → insert_entry R es k v ≡ es ++ (k, v) ∷ []
   inserted_above o [] k v below = refl
