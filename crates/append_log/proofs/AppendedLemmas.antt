@@ -1,16 +1,16 @@
 -- What a crash leaves while a record is appended.
-use Rattle.std.proofs.Common.{◌≡◌, ℕ, ◌+◌, ◌-◌, ◌<◌, ◌^◌, ◌≢◌, ◌≤◌, List, [], ◌++◌, length, refl, sym, ◌∙◌, ap, subst, arith, cond, Bool, Ok}
+use Rattle.std.proofs.Common.{◌≡◌, ℕ, ◌+◌, ◌-◌, ◌<◌, ◌^◌, ◌≢◌, ◌≤◌, List, [], ◌++◌, length, sym, ◌∙◌, ap, subst, arith, cond, Bool, Ok}
 use Rattle.blob_device.specs.Disk.{Key, Blob, Disk, settled_at}
 use Rattle.blob_device.specs.Change.{Make, Write, Settle, written}
 use Rattle.blob_device.specs.Timeline.{Timeline, disk, Passes, Always, OnlyAt}
 use Rattle.blob_device.specs.Keeps.{Stays}
 use Rattle.blob_device.specs.lemmas.Moments.{always_weaker, ok_blob}
 use Rattle.blob_device.specs.lemmas.Bytes.{written_end}
-use Rattle.blob_device.proofs.KeepsLemmas.{keeps_all}
-use Rattle.blob_device.proofs.StaysLemmas.{stays_crash}
+use Rattle.blob_device.specs.lemmas.Stays.{stays_crash}
 use Rattle.blob_device.specs.Opened.{Opened, OpenedList, entered, updated, with_len, PartlyGrown}
 use Rattle.blob_device.specs.lemmas.Opened.{entered_other, updated_other}
 use Rattle.append_log.specs.Appended.{Holds, LeavesFirst}
+use Rattle.append_log.specs.lemmas.Appended.{holds_settled}
 
 pub leaves : {a b : Timeline} {k : Key} {from : Disk} {kept : List ℕ} {most : ℕ} → Always a b (OnlyAt k from (Stays kept most)) → Always a b (OnlyAt k from (LeavesFirst kept most))
 leaves {a = a} {b = b} {k = k} {from = from} {kept = kept} {most = most} always =
@@ -19,9 +19,6 @@ leaves {a = a} {b = b} {k = k} {from = from} {kept = kept} {most = most} always 
 -- a blob that holds its bytes stays so while at most n more are added
 pub holds_stays : (n : ℕ) (b : Blob) → Holds b.content b → Stays b.content (length b.content + n) b
 holds_stays n b h = record { keeps = h.kept; no_longer = record { now = omega arith; past = omega (arith, h.no_longer.past) } }
-
-pub holds_settled : (bytes : List ℕ) → Holds bytes (settled_at bytes)
-holds_settled bytes = record { content = refl; kept = keeps_all bytes; no_longer = record { now = omega arith; past = omega arith } }
 
 module _ {t0 t1 : Timeline} {k : Key} (kept bytes : List ℕ) (len : ℕ) (held : Holds kept (disk t0 k))
     (opening : Passes {T = ℕ} k Make (Ok len) t0 t1) (is : len ≡ length (disk t1 k).content) where

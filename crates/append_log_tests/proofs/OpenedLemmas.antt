@@ -5,7 +5,7 @@ use Rattle.blob_device.specs.Disk.{Key, Blob}
 use Rattle.blob_device.specs.Timeline.{Timeline, disk, Passes}
 use Rattle.blob_device.specs.lemmas.Moments.{ok_blob}
 use Rattle.append_log.specs.Appended.{Holds}
-use Rattle.append_log.proofs.AppendedLemmas.{holds_settled}
+use Rattle.append_log.specs.lemmas.Appended.{holds_settled}
 
 pub opened_holds : (k : Key) (len : ℕ) (before after : Timeline) → Passes {T = ℕ} k Make (Ok len) before after → Holds (disk after k).content (disk after k)
 opened_holds k len before after opening =

@@ -5,11 +5,11 @@ use Rattle.blob_device.specs.Disk.{Disk, NothingPending, nothing}
 use Rattle.blob_device.specs.Timeline.{Timeline, disk}
 use Rattle.meta_store.specs.declared.copy.CopyText.TheVariants.{Absent}
 use Rattle.meta_store.specs.declared.error.Side.TheVariants.{Left}
-use Rattle.meta_store.proofs.Sealing.{empty_absent}
+use Rattle.meta_store.specs.lemmas.Sealing.{empty_absent}
+use Rattle.sealed_pages.specs.lemmas.Reaching.{prefix_size}
+use Rattle.sealed_pages.specs.lemmas.looking.Looking.{slot_short}
 use Rattle.sealed_pages.specs.SealedPrefix.{pages_in, sealed_prefix, size_below}
 use Rattle.sealed_pages.specs.Slots.{page_length}
-use Rattle.sealed_pages.proofs.looking.Looking.{slot_short}
-use Rattle.sealed_pages.proofs.Reaching.{prefix_size}
 use Rattle.paired.specs.Kept.{is_sound_in, marker_of, stored_records}
 use Rattle.paired.specs.Opening.{as_read}
 use Rattle.paired.specs.Places.{Follow}

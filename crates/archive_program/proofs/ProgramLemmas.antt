@@ -19,7 +19,7 @@ use Rattle.archive_service.specs.declared.ended.Status.TheVariants.{NoMemory, Re
 use Rattle.archive_service.specs.declared.replies.End.{End}
 use Rattle.archive_service.specs.declared.replies.End.TheVariants.{Done}
 use Rattle.archive_service.specs.declared.settings.Settings.{Settings}
-use Rattle.archive_service.proofs.ScriptLemmas.{good_or_bad, one_script}
+use Rattle.archive_service.specs.lemmas.Script.{good_or_bad, one_script}
 use Rattle.archive_program.specs.Answering.{AnswersTo, IsUnread}
 use Rattle.archive_program.specs.Taking.{TakesPrefix}
 use Rattle.archive_program.specs.Output.{WritesPrefix}

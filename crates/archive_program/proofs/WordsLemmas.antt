@@ -1,9 +1,9 @@
 -- The words of a call, and the job that they ask for.
-use Rattle.std.specs.Prelude.{◌==◌, IsSome, IfNone, IfSome, Option}
-use Rattle.std.proofs.Common.{◌≡◌, ◌≢◌, inl, inr, ℕ, nat_eq, Bool, true, false, not, ◌^◌, ◌<◌, ◌≤◌, List, [], ◌∷◌, length, map, get_or, Some, None, codes, refl, sym, ap, subst, ◌∙◌, arith}
+use Rattle.std.specs.Prelude.{◌==◌, IfNone, IfSome, Option}
+use Rattle.std.proofs.Common.{◌≡◌, ◌≢◌, ℕ, Bool, true, false, not, ◌^◌, ◌<◌, ◌≤◌, List, [], ◌∷◌, length, map, get_or, Some, None, codes, refl, sym, ap, subst, ◌∙◌, arith}
 use Rattle.std.specs.Str.{bytes_eq}
 use Rattle.std.proofs.lemmas.Slice.Eq.{bytes_eq-Decides}
-use Rattle.std.proofs.lemmas.Bool.{cases_Bool, eqb-false, eqb-true}
+use Rattle.std.proofs.lemmas.Bool.{eqb-true}
 use Rattle.std.proofs.lemmas.List.{length-map, nil_from_length}
 use Rattle.std.specs.Fmt.{decimal}
 use Rattle.std.proofs.lemmas.Fmt.{decimal_injective}
@@ -11,7 +11,6 @@ use Rattle.archive_service.specs.Script.{IsIndex}
 use Rattle.archive_service.specs.Reading.{IsReading}
 use Rattle.archive_program.specs.Answering.{MayBeDone}
 use Rattle.archive_program.specs.Words.{AreItems, AreOfNoForm, AreWordsFor, AsksFor, IsNumberTo, Job, Make, Script}
-use Rattle.archive_program.specs.WordsSeen.{IsStatusFor, IsStatusIn, folder_in}
 
 -- ---- one word
 
@@ -137,24 +136,3 @@ may_be_done words (Script items) asks = asks.are_items.number.some
 may_be_done words (Make items count) asks = asks.words_for.are_items.number.some
 
 -- ---- the status of a call, by its words
-
-module _ (words : List (List ℕ)) (status : ℕ) where
-  pub status_for : status ≤ 7 → (status ≡ 1 → AreOfNoForm words) → ((status ≡ 1 → ⊥) → (job : Job) × AsksFor words job) → IsStatusFor words status
-  status_for known usage asked = record { known = known; usage = usage; form = form }
-    where
-      form : AreOfNoForm words → status ≡ 1
-      form none = elim (cases_Bool (nat_eq status 1)) as (λ _. status ≡ 1) [
-        | inl same ↦ eqb-true status 1 same
-        | inr other ↦ (let job = asked (eqb-false status 1 other) in absurd (none job.0 job.1))
-      ]
-
-  pub status_in : IsStatusFor words status → IsStatusIn words status
-  status_in is = record { known = is.known; usage = is.usage; form = λ none. inl (is.form none) }
-
-  -- there was no memory for the device of a folder
-  pub no_memory_in : (folder : List ℕ) → folder_in words ≡ Some folder → status ≡ 6 → IsStatusIn words status
-  no_memory_in folder named six = record {
-    known = omega (arith, six);
-    usage = λ one. absurd (omega (arith, one, six));
-    form = λ none. inr (six, subst IsSome (sym named) refl);
-  }

@@ -8,3 +8,4 @@ pub mod Program
 pub mod Taking
 pub mod Words
 pub mod WordsSeen
+pub mod lemmas

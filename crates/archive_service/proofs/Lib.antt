@@ -11,7 +11,6 @@ pub mod PruneAnswers
 pub mod PutAnswers
 pub mod PutSyncAnswers
 pub mod RecordLemmas
-pub mod RunLemmas
 pub mod ScriptLemmas
 pub mod ServingLoop
 pub mod StoreLemmas

@@ -35,7 +35,8 @@ use Rattle.archive_service.specs.PrunableKind.{Clears, ClearsOpen, IsQuiet, Lear
 use Rattle.archive_service.specs.PrunableStore.{held_by, openable_serving}
 use Rattle.archive_service.specs.declared.store.openable.Openable.{Openable}
 use Rattle.archive_service.specs.declared.store.openable.Openable.TheVariants.{Open}
-use Rattle.archive_service.proofs.StoreLemmas.{Given, as_asked, leaves_as, nothing_done, quiet_open, serving_by, st, unchanged_always, unchanged_end}
+use Rattle.archive_service.proofs.StoreLemmas.{leaves_as, quiet_open, unchanged_end}
+use Rattle.archive_service.specs.lemmas.Store.{Given, as_asked, nothing_done, serving_by, st, unchanged_always}
 
 -- none of a set's absent numbers are so many, where none are asked for
 pub none_missing : (set : Set) (from most : ℕ) → most ≡ 0 → AreMissing set from most []

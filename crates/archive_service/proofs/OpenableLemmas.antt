@@ -32,7 +32,8 @@ use Rattle.archive_service.specs.PrunableKind.{HoldsPut, HoldsPutAndSynced, Hold
 use Rattle.archive_service.specs.PrunableStore.{closed_held, closed_state, held_by, openable_serving}
 use Rattle.archive_service.specs.declared.store.openable.Openable.{Openable}
 use Rattle.archive_service.specs.declared.store.openable.Openable.TheVariants.{Closed, Open}
-use Rattle.archive_service.proofs.StoreLemmas.{Given, as_asked, leaves_as, no_refusal, nothing_done, own, quiet_open, refused_by_none, refused_by_none_now, serving_by, st, unchanged_always}
+use Rattle.archive_service.proofs.StoreLemmas.{leaves_as, no_refusal, quiet_open, refused_by_none, refused_by_none_now}
+use Rattle.archive_service.specs.lemmas.Store.{Given, as_asked, nothing_done, own, serving_by, st, unchanged_always}
 
 -- ---- cases of a command
 

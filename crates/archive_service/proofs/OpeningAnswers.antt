@@ -11,7 +11,10 @@ use Rattle.blob_device.specs.declared.device.Device as device
 use Rattle.blob_device.specs.declared.runtime.RError.TheVariants as runtime
 use Rattle.meta_store.specs.declared.error.Error.TheVariants as metadata
 use Rattle.blob_device.specs.lemmas.Footprint.{footprint_wider}
-use Rattle.meta_store.proofs.Uses.{IsReadable}
+use Rattle.archive_service.specs.lemmas.Store.{Given, always_as, lists_long_of, none_long, own, rows_long_of}
+use Rattle.archives.specs.lemmas.Reopening.{none_beyond}
+use Rattle.archives.specs.lemmas.init.Records.{one_markers}
+use Rattle.meta_store.specs.lemmas.Uses.{IsReadable}
 use Rattle.section_manager.specs.Sections.{section_key}
 use Rattle.section_manager.specs.declared.journal.Error.TheVariants as journal
 use Rattle.section_manager.specs.declared.sealed.AppendFactory.{AppendFactory}
@@ -34,8 +37,6 @@ use Rattle.archives.specs.Rows.{row_in}
 use Rattle.archives.specs.Standing.{IsStart, Leaves}
 use Rattle.archives.specs.declared.error.Error.{Error}
 use Rattle.archives.specs.declared.error.Error.TheVariants.{Full, Journal, Mem, Metadata, RecordCorrupted}
-use Rattle.archives.proofs.init.Records.{one_markers}
-use Rattle.archives.proofs.Reopening.{none_beyond}
 use Rattle.archive_service.specs.Causes.{Held, IsCause, IsCauseAnywhere, IsOpening, IsUnfit, MustMoveHeld, MustMoveNow, MustRefuseAnywhere, holding_nothing}
 use Rattle.archive_service.specs.StoreCalls.{AnswerEnds, Answers, OpeningEnds, OpensStore}
 use Rattle.archive_service.specs.PrunableKind.{IsFound, IsQuiet}
@@ -43,7 +44,7 @@ use Rattle.archive_service.specs.PrunableStore.{IsSoundOpenable, IsUsableStore, 
 use Rattle.archive_service.specs.Starts.{start_of, starts}
 use Rattle.archive_service.specs.declared.store.openable.Openable.{Openable}
 use Rattle.archive_service.specs.declared.store.openable.Openable.TheVariants.{Closed, Open}
-use Rattle.archive_service.proofs.StoreLemmas.{Given, always_as, leaves_as, lists_long_of, no_refusal, none_long, own, rows_long_of}
+use Rattle.archive_service.proofs.StoreLemmas.{leaves_as, no_refusal}
 
 -- an opening before the first command is under way as none is
 none_for_reopen : (f : Filing) (st : State (List ℕ)) (d : Disk) → Leaves f st (Some Reopen) d → Leaves f st None d

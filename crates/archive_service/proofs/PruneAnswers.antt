@@ -26,14 +26,15 @@ use Rattle.archives.specs.Putting.{record_tail, value_tail}
 use Rattle.archives.specs.Replies as reply
 use Rattle.archives.specs.declared.error.Error.{Error}
 use Rattle.archives.specs.declared.error.Error.TheVariants.{Full, Journal, Mem, Metadata}
-use Rattle.archives.proofs.OutlastsLemmas.{markers_are, markers_held}
-use Rattle.archives.proofs.put.Sync.{filing_then}
+use Rattle.archive_service.specs.lemmas.Store.{Given, as_asked, rows_long_of, serving_by, st}
+use Rattle.archives.specs.lemmas.Outlasts.{markers_are, markers_held}
+use Rattle.archives.specs.lemmas.put.Sync.{filing_then}
 use Rattle.archive_service.specs.Causes.{IsCause, IsCauseAnywhere, IsRaisedTo}
 use Rattle.archive_service.specs.StoreCalls.{AnswerEnds, Answers}
 use Rattle.archive_service.specs.PrunableKind.{HoldsPruned}
 use Rattle.archive_service.specs.PrunableStore.{IsUsableStore, held_by, openable_serving}
 use Rattle.archive_service.specs.declared.store.openable.Openable.TheVariants.{Open}
-use Rattle.archive_service.proofs.StoreLemmas.{Given, as_asked, no_refusal, quiet_open, rows_long_of, serving_by, st}
+use Rattle.archive_service.proofs.StoreLemmas.{no_refusal, quiet_open}
 
 module _ {A V S D : Type 0} {gs : _} (p : Prunable A V (AppendFactory S) (PageBlob S gs)) (setup : Setup V) (valid : Type 0) (dev : device.Ghosts D) (a : A) (old : D) (given : Given p setup valid dev a old) (bound : ℕ) where
   abbrev filing : Filing

@@ -21,14 +21,15 @@ use Rattle.archives.specs.Putting.{IsWrittenAfter, Often, Once, Times, frame_siz
 use Rattle.archives.specs.Replies as reply
 use Rattle.archives.specs.declared.error.Error.{Error}
 use Rattle.archives.specs.declared.error.Error.TheVariants.{Full, Journal, Mem}
-use Rattle.archives.proofs.put.Sync.{filing_then}
+use Rattle.archive_service.specs.lemmas.Store.{Added, Given, HeldAdded, PutsIt, adds_full, adds_is, adds_now, always_as, as_asked, buffered, bytes_are, frame_is, full_adds, full_for, holds_now, large_adds, not_large, not_large_held, nothing_done, now_adds, now_holds, past, past_size, puts_it, putting, rows_are, serving_by, st, surely_full}
+use Rattle.archives.specs.lemmas.put.Sync.{filing_then}
 use Rattle.archive_service.specs.Causes.{Held, IsCause, IsCauseAnywhere, IsPastAll, IsPastSizeAlone, IsRefusedAsFull, IsRefusedAsTooLarge, IsSurelyFull, MustMove, MustMoveHeld}
 use Rattle.archive_service.specs.Families.{PutOf, family_of}
 use Rattle.archive_service.specs.StoreCalls.{AnswerEnds, Answers}
 use Rattle.archive_service.specs.PrunableKind.{AreTailsWith, HoldsPut, IsBuffered, IsQuiet, Learns, MayChange}
 use Rattle.archive_service.specs.PrunableStore.{IsUsableStore, held_by, openable_serving}
 use Rattle.archive_service.specs.declared.store.openable.Openable.TheVariants.{Open}
-use Rattle.archive_service.proofs.StoreLemmas.{Added, Given, HeldAdded, PutsIt, adds_full, adds_is, adds_not, adds_now, adds_where, always_as, as_asked, buffered, bytes_are, frame_is, full_adds, full_for, holds_now, large_adds, not_large, not_large_held, nothing_done, now_adds, now_holds, past, past_size, putting, puts_it, quiet_open, rows_are, serving_by, st, surely_full}
+use Rattle.archive_service.proofs.StoreLemmas.{adds_not, adds_where, quiet_open}
 
 module _ {A V S D : Type 0} {gs : _} (p : Prunable A V (AppendFactory S) (PageBlob S gs)) (setup : Setup V) (valid : Type 0) (dev : device.Ghosts D) (a : A) (old : D) (given : Given p setup valid dev a old)
     (times : Times) (i : ℕ) (k v : List ℕ) where

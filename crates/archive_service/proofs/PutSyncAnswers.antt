@@ -32,8 +32,9 @@ use Rattle.archive_service.specs.PrunableKind.{ClearsOpen, HoldsPutAndSynced, Is
 use Rattle.archive_service.specs.PrunableStore.{IsUsableStore, held_by, openable_serving}
 use Rattle.archive_service.specs.declared.store.openable.Openable.TheVariants.{Open}
 use Rattle.archive_service.proofs.PutAnswers.{held_never, put_holds, put_usable, refused_never}
-use Rattle.archive_service.proofs.StoreLemmas.{Given, PutsIt, adds_full, always_as, as_asked, full_adds, full_for, holds_now, large_adds, lists_long, nothing_done, now_holds, past, past_size, putting, puts_it, quiet_open, rows_are, rows_long, serving_by, st, surely_full}
+use Rattle.archive_service.proofs.StoreLemmas.{quiet_open}
 use Rattle.archive_service.proofs.SyncAnswers.{sync_holds, sync_usable}
+use Rattle.archive_service.specs.lemmas.Store.{Given, PutsIt, adds_full, always_as, as_asked, full_adds, full_for, holds_now, large_adds, lists_long, nothing_done, now_holds, past, past_size, puts_it, putting, rows_are, rows_long, serving_by, st, surely_full}
 
 module _ {A V S D : Type 0} {gs : _} (p : Prunable A V (AppendFactory S) (PageBlob S gs)) (setup : Setup V) (valid : Type 0) (dev : device.Ghosts D) (a : A) (old : D) (given : Given p setup valid dev a old)
     (times : Times) (i : ℕ) (k v : List ℕ) where

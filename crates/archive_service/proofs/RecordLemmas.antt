@@ -6,7 +6,7 @@ use Rattle.hex.specs.Hex.{encode_lower}
 use Rattle.archive_service.specs.Texts.{value_text}
 use Rattle.archive_service.specs.Script.{IsCount, IsIndex, IsKey, IsValue}
 use Rattle.archive_service.specs.Reading.{IsCounted, IsKeyed, IsRecord, Record, IsReading, counted_text, keyed_text, record_text}
-use Rattle.archive_service.proofs.WordLemmas.{Lacks, cut_never, cut_once, decimal_lacks, encode_lacks}
+use Rattle.archive_service.specs.lemmas.Word.{Lacks, cut_never, cut_once, decimal_lacks, encode_lacks}
 
 -- these words say no record
 abbrev pub SayNone : ℕ → List ℕ → Type 0

@@ -26,14 +26,15 @@ use Rattle.archives.specs.Syncing.{IsMoving, IsMovingBy, IsMovingIn}
 use Rattle.archives.specs.Syncs.{IsSyncCause, Synced, Syncs}
 use Rattle.archives.specs.declared.error.Error.{Error}
 use Rattle.archives.specs.declared.error.Error.TheVariants.{Full, Journal, Mem, Metadata}
-use Rattle.archives.proofs.put.Sync.{filing_then}
+use Rattle.archive_service.specs.lemmas.Store.{Given, always_as, as_asked, held_moving, moving_held, rows_long_of, serving_by, st}
+use Rattle.archives.specs.lemmas.put.Sync.{filing_then}
 use Rattle.archive_service.specs.Causes.{Held, IsCause, IsCauseAnywhere, MustMove, MustMoveHeld, MustRefuse, MustRefuseAnywhere, RefusesAnywhere, RefusesPut}
 use Rattle.archive_service.specs.Families.{family_of}
 use Rattle.archive_service.specs.StoreCalls.{AnswerEnds, Answers}
 use Rattle.archive_service.specs.PrunableKind.{Clears, HoldsSynced, IsQuiet, Learns, MayChange}
 use Rattle.archive_service.specs.PrunableStore.{IsUsableStore, held_by, openable_serving}
 use Rattle.archive_service.specs.declared.store.openable.Openable.TheVariants.{Open}
-use Rattle.archive_service.proofs.StoreLemmas.{Given, always_as, as_asked, held_moving, moving_held, no_refusal, quiet_open, rows_long_of, serving_by, st}
+use Rattle.archive_service.proofs.StoreLemmas.{no_refusal, quiet_open}
 
 -- where nothing is put, only a marker that has to move can refuse, of an open archive, and no put is refused
 moving_only : {X Y Z : Type 0} → ⊥ ⊎ ((X × Y) × Z) → Y × Z

@@ -3,9 +3,9 @@
 -- and what a run of a script's commands over a store promises (`Serves`). What contracts promise of one command, or of
 -- an opening, is in `StoreCalls`.
 pub mod Causes
-pub mod Families
 pub mod Ended
 pub mod ErrorTexts
+pub mod Families
 pub mod Kinds
 pub mod Made
 pub mod MadeCounts
@@ -18,10 +18,11 @@ pub mod RunLaws
 pub mod Script
 pub mod Serves
 pub mod ServesOne
-pub mod StoreCalls
 pub mod Settings
 pub mod Starts
+pub mod StoreCalls
 pub mod Stores
 pub mod Texts
 pub mod Words
 pub mod Writing
+pub mod lemmas

@@ -17,8 +17,8 @@ use Rattle.section_manager.specs.declared.unsealed.WriteFactory.{WriteFactory}
 use Rattle.section_manager.specs.Setting.{Setting}
 use Rattle.section_manager.specs.Sections.{section_key}
 use Rattle.section_manager.specs.lemmas.Keys.{key_injective}
-use Rattle.paired.proofs.GlobLemmas.{buffers}
-use Rattle.paired.proofs.OpenParts.{keys_apart}
+use Rattle.paired.specs.lemmas.Glob.{buffers}
+use Rattle.paired.specs.lemmas.OpenParts.{keys_apart}
 use Rattle.paired.specs.Records as stored
 use Rattle.archives.specs.Archives.{Archive, Buffers, IsArchive, IsSoundArchive, LeavesNoForeign, filing_of, state_of}
 use Rattle.archives.specs.Commands.{Command}

@@ -12,15 +12,15 @@ use Rattle.blob_device.specs.declared.device.Device as device
 use Rattle.blob_device.specs.lemmas.Moments.{always_now, always_weaker}
 use Rattle.meta_store.specs.Blobs.{blob_of, bytes_of}
 use Rattle.meta_store.specs.Crashes as metadata_crash
-use Rattle.meta_store.proofs.Sealing.{empty_absent}
+use Rattle.meta_store.specs.lemmas.Sealing.{empty_absent}
+use Rattle.sealed_pages.specs.lemmas.slots.Slot.{slot_stands}
+use Rattle.section_manager.specs.lemmas.buffers.NothingSealed.{nothing_sealed}
 use Rattle.sealed_pages.specs.ChanceSeal as pages
 use Rattle.sealed_pages.specs.SealedPrefix.{sealed_prefix}
 use Rattle.sealed_pages.specs.declared.page_blob.PageBlob.{PageBlob}
-use Rattle.sealed_pages.proofs.slots.SlotLemmas.{slot_stands}
 use Rattle.section_manager.specs.Refusing.{HasFailed}
 use Rattle.section_manager.specs.Sections.{IsHeld, section_key}
 use Rattle.section_manager.specs.declared.journal.Error as journal
-use Rattle.section_manager.proofs.buffers.NothingSealed.{nothing_sealed}
 use Rattle.paired.specs.Crashes.{IsBlobOf, IsCopy, IsIndexOf, IsOneOf, IsOwn, IsValuesOf, Keeping, LeavesAlone, WasThere}
 use Rattle.paired.specs.Kept.{Layout, Markers, content_at, is_sound_in, marker_of, stored_records}
 use Rattle.paired.specs.Opening.{MayBeOpened, as_read}

@@ -8,7 +8,7 @@ use Rattle.ordinal_store.specs.Numbers.{Set, AddsNumber, IsRunAround, IsSameSet}
 use Rattle.record_tables.specs.Rows.{AreIndicesOf}
 use Rattle.archives.specs.Machine.{section_of}
 use Rattle.archives.specs.Rows.{Row, has_row}
-use Rattle.archives.proofs.put.Rows.{other_or_same}
+use Rattle.archives.specs.lemmas.put.Rows.{other_or_same}
 
 -- two tests that are true together are the same
 pub same_test : (b c : Bool) → IsTrue b ↔ IsTrue c → b ≡ c

@@ -11,7 +11,7 @@ use Rattle.blob_device.specs.declared.device.Device as device
 use Rattle.blob_device.specs.lemmas.Footprint.{footprint_then, footprint_wider}
 use Rattle.blob_device.specs.lemmas.Puts.{same_or_other}
 use Rattle.sealed_pages.specs.declared.page_blob.PageBlob.{PageBlob}
-use Rattle.sealed_pages.proofs.looking.Looking.{unchanged_now, unchanged_then}
+use Rattle.sealed_pages.specs.lemmas.looking.Looking.{unchanged_now, unchanged_then}
 use Rattle.section_manager.specs.Sections.{section_key}
 use Rattle.paired.specs.Crashes.{IsIndexOf, IsOwn}
 use Rattle.archives.specs.Archives.{state_of}

@@ -17,21 +17,22 @@ use Rattle.meta_store.specs.declared.error.Error.TheVariants as metadata
 use Rattle.meta_store.specs.declared.error.Side.{Side}
 use Rattle.meta_store.specs.declared.error.Side.TheVariants.{Left, Right}
 use Rattle.meta_store.specs.declared.pair.Chosen.{Chosen}
-use Rattle.meta_store.proofs.Uses.{IsReadable, one_reading}
+use Rattle.archives.specs.lemmas.init.Records.{one_markers}
+use Rattle.meta_store.specs.lemmas.Uses.{IsReadable, one_reading}
+use Rattle.paired.specs.lemmas.Boundary.{content_there}
+use Rattle.paired.specs.lemmas.Kept.{EndsBy, follow_ends, sound_parts}
+use Rattle.paired.specs.lemmas.opening.StartRefusals.{last_is_record, records_end, sealed_small}
+use Rattle.segments.specs.lemmas.replay.Kept.{prefix_data}
 use Rattle.sealed_pages.specs.SealedPrefix.{data_from, sealed_prefix}
 use Rattle.sealed_pages.specs.View.{view}
 use Rattle.section_manager.specs.Sections.{section_key}
 use Rattle.section_manager.specs.declared.journal.Damage.{Damage}
 use Rattle.section_manager.specs.declared.journal.Error.TheVariants as journal
 use Rattle.segments.specs.FixedFloors.{IsRefused}
-use Rattle.segments.proofs.replay.Kept.{prefix_data}
 use Rattle.paired.specs.Kept.{IsMarked, Layout, Markers, content_at, is_sound_in, stored_records}
 use Rattle.paired.specs.Opening.{IsLawful, as_read}
 use Rattle.paired.specs.OpeningRefusing.{IsCutOff, IsLost, IsOutside, last_of}
 use Rattle.paired.specs.Places.{end_of}
-use Rattle.paired.proofs.BoundaryLemmas.{content_there}
-use Rattle.paired.proofs.KeptLemmas.{EndsBy, follow_ends, sound_parts}
-use Rattle.paired.proofs.opening.StartRefusals.{last_is_record, records_end, sealed_small}
 use Rattle.archives.specs.Filing.{Filing, kept_entries}
 use Rattle.archives.specs.Lawful.{Lawful}
 use Rattle.archives.specs.Opening.{HasNoVersion, HasStray, IsPastLimits}
@@ -39,7 +40,6 @@ use Rattle.archives.specs.Opens.{HasForeign, HasToMove, HaveBadCopy, IsLawfulCau
 use Rattle.archives.specs.declared.error.Error.{Error}
 use Rattle.archives.specs.declared.error.Error.TheVariants.{Journal, Metadata, RecordCorrupted, Full, Mem}
 use Rattle.archives.proofs.init.Causes.{lawful_no_over, lawful_no_stray}
-use Rattle.archives.proofs.init.Records.{one_markers}
 use Rattle.blob_device.proofs.general.Lists.{all_at}
 
 -- ---- the copies of the markers

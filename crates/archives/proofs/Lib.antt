@@ -16,7 +16,6 @@ pub mod MoreRows
 pub mod opening
 pub mod OpenedAgain
 pub mod OpensLemmas
-pub mod OutlastsLemmas
 pub mod machine
 pub mod positions
 pub mod PruneLemmas

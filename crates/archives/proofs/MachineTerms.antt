@@ -26,9 +26,10 @@ use Rattle.paired.specs.Pair.{list_of, records_of}
 use Rattle.paired.specs.Places.{Follow}
 use Rattle.paired.specs.Records as stored
 use Rattle.paired.specs.Records.{is_sound}
-use Rattle.paired.proofs.FrameLemmas.{length-bytes_at, length-frame}
-use Rattle.paired.proofs.KeptLemmas.{sound_parts}
-use Rattle.paired.proofs.pair.Reads.{index_size}
+use Rattle.archives.specs.lemmas.put.Lemmas.{whole_bytes}
+use Rattle.paired.specs.lemmas.Frame.{length-bytes_at, length-frame}
+use Rattle.paired.specs.lemmas.Kept.{sound_parts}
+use Rattle.paired.specs.lemmas.pair.Reads.{index_size}
 use Rattle.paired.specs.lemmas.Records.{length-records}
 use Rattle.archives.specs.Archives.{Archive, IsArchive, IsSoundArchive, filing_of, state_of}
 use Rattle.archives.specs.Filing.{Filing, filed}
@@ -37,7 +38,6 @@ use Rattle.archives.specs.Opening.{HasNoVersion}
 use Rattle.archives.specs.Putting.{IsAllowed, IsPassed, WouldPass}
 use Rattle.archives.specs.Rows.{HasRoom}
 use Rattle.archives.proofs.ArchiveStands.{length_rows}
-use Rattle.archives.proofs.put.Lemmas.{whole_bytes}
 use Rattle.blob_device.proofs.general.Lists.{all_by}
 use Rattle.blob_device.proofs.general.Options.{has_value, none_or_value}
 

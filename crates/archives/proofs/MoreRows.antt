@@ -5,7 +5,7 @@ use Rattle.archives.specs.Commands.{Put, PutSync, PutStart, MultiSync, MultiStar
 use Rattle.archives.specs.Replies as reply
 use Rattle.ordinal_store.specs.Numbers.{Set, AreMissing, IsMissing, IsLeast, IsGreatest, AreRuns, AreRunsFrom}
 use Rattle.archives.specs.Machine.{IsReopened, Run, ContainsKey, empty_state, has_index, appended, emptied_below, after_sync}
-use Rattle.archives.proofs.MachineLaws.{IsInOrder, step_keeps_order}
+use Rattle.archives.specs.lemmas.MachineLaws.{IsInOrder, step_keeps_order}
 use Rattle.archives.proofs.Rows.{Stand, key_of, reopened, whole}
 use Rattle.archives.proofs.Sets.{HasOnly, appended_has_only, appended_record, each_of, emptied_has_only, empty_has_only, lone_runs, lone_runs_from}
 

@@ -15,8 +15,10 @@ use Rattle.section_manager.specs.SealedLaws.{no_chance}
 use Rattle.section_manager.specs.Sections.{key_of, section_key}
 use Rattle.section_manager.specs.Setting.{Setting}
 use Rattle.section_manager.specs.unsealed.Buffer.{Stands}
-use Rattle.segments.proofs.adding.WriteLemmas.{ArePages}
-use Rattle.segments.proofs.adding.HadLemmas.{journal_had, sections_had}
+use Rattle.paired.specs.lemmas.pair.Facts.{journal_lasts, not_there, proven_of}
+use Rattle.paired.specs.lemmas.reconcile.Resting.{no_slots, none_sound, of_rest, reads_absent, reads_there}
+use Rattle.segments.specs.lemmas.adding.Had.{journal_had, sections_had}
+use Rattle.segments.specs.lemmas.adding.Write.{ArePages}
 use Rattle.meta_store.specs.declared.error.Side.{Side}
 use Rattle.meta_store.specs.declared.error.Side.TheVariants.{Left, Right}
 use Rattle.meta_store.specs.Blobs.{blob_of}
@@ -27,8 +29,6 @@ use Rattle.paired.specs.Kept.{Layout, content_at, is_sound_in, stored_records}
 use Rattle.paired.specs.Opening.{MayBeOpened, as_read}
 use Rattle.paired.specs.Pair.{HasNoBytes}
 use Rattle.paired.specs.Records.{is_sound}
-use Rattle.paired.proofs.pair.Facts.{journal_lasts, not_there, proven_of}
-use Rattle.paired.proofs.reconcile.Resting.{no_slots, none_sound, of_rest, reads_absent, reads_there}
 use Rattle.archives.specs.Archives.{Archive, IsArchive, IsSoundArchive}
 use Rattle.archives.proofs.ArchiveStands.{glob_buffers}
 use Rattle.blob_device.proofs.general.Options.{none_or_value}

@@ -10,7 +10,8 @@ use Rattle.blob_device.specs.declared.device.Device as device
 use Rattle.blob_device.specs.declared.runtime.RError.TheVariants as runtime
 use Rattle.meta_store.specs.declared.error.Error.TheVariants as metadata
 use Rattle.meta_store.specs.declared.error.Side.{Side}
-use Rattle.meta_store.proofs.Uses.{IsReadable}
+use Rattle.meta_store.specs.lemmas.Uses.{IsReadable}
+use Rattle.paired.specs.lemmas.pair.Failing.{rose_before}
 use Rattle.sealed_pages.specs.declared.page_blob.PageBlob.{PageBlob}
 use Rattle.section_manager.specs.Sections.{section_key}
 use Rattle.section_manager.specs.declared.journal.Error.TheVariants as journal
@@ -21,7 +22,6 @@ use Rattle.paired.specs.Kept.{Layout, Markers, stored_records}
 use Rattle.paired.specs.Opening.{IsLawful, MayBeOpened, as_read}
 use Rattle.paired.specs.Records as stored
 use Rattle.paired.specs.Replaying.{Run}
-use Rattle.paired.proofs.pair.Failing.{rose_before}
 use Rattle.archives.specs.Archives.{Buffers}
 use Rattle.archives.specs.Enters.{Drains, kept_on}
 use Rattle.archives.specs.Filing.{kept_entries}

@@ -36,8 +36,9 @@ use Rattle.archives.specs.declared.error.Error.{Error}
 use Rattle.archives.specs.declared.error.Error.TheVariants.{Full, Journal, Mem}
 use Rattle.archives.proofs.put.Errors.{full_from, large_from, two_errors}
 use Rattle.archives.proofs.Alike.{alike_as}
-use Rattle.archives.proofs.put.Stands.{put_skipped, put_unmoved}
+use Rattle.archives.proofs.put.Stands.{put_unmoved}
 use Rattle.archives.proofs.PuttingLemmas.{step_by}
+use Rattle.archives.specs.lemmas.put.Stands.{put_skipped}
 
 module _ {A V S D : Type 0} {gs : _} (p : Prunable A V (AppendFactory S) (PageBlob S gs)) (dev : device.Ghosts D) (times : Times) (a : A) (index : ℕ) (key value : List ℕ) where
   abbrev sec : ℕ

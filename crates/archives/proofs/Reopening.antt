@@ -1,23 +1,18 @@
 -- An opening as a step of the machine, and what a disk with nothing pending stands for before the first one.
-use Rattle.std.proofs.Common.{◌≡◌, inl, inr, refl, sym, ◌∙◌, ap, subst, ℕ, ◌<◌, ◌≤◌, ◌^◌, Bool, true, false, if◌then◌else◌, List, [], length, map, take, None, arith}
+use Rattle.std.proofs.Common.{◌≡◌, inl, inr, refl, sym, ◌∙◌, ap, subst, ℕ, ◌<◌, ◌≤◌, ◌^◌, Bool, true, false, if◌then◌else◌, List, length, take, None, arith}
 use Rattle.std.specs.Prelude.{MatchBool}
 use Rattle.std.proofs.Math.Seq.{take-length}
 use Rattle.std.proofs.lemmas.Bool.{cases_lt}
 use Rattle.blob_device.specs.Disk.{Disk, Image, NothingPending}
-use Rattle.blob_device.specs.Opened.{OpenedList}
-use Rattle.sealed_pages.specs.declared.page_blob.PageBlob.{PageBlob}
 use Rattle.paired.specs.Kept.{Markers}
 use Rattle.paired.specs.Opening.{as_read}
-use Rattle.paired.proofs.opening.Laws.{crash_as_read}
-use Rattle.archives.specs.Archives.{Archive, IsArchive, filing_of, state_of}
+use Rattle.paired.specs.lemmas.opening.Laws.{crash_as_read}
 use Rattle.archives.specs.Commands.{Reopen}
-use Rattle.archives.specs.Filing.{Filing, filed, kept}
+use Rattle.archives.specs.Filing.{Filing, kept}
 use Rattle.archives.specs.Lawful.{Lawful}
 use Rattle.archives.specs.Machine.{Entry, IsReopened, State, Step}
 use Rattle.archives.specs.Replies as reply
 use Rattle.archives.specs.Standing.{IsPrefix, IsStart, Leaves, StandsFor, submitted}
-use Rattle.archives.proofs.init.State.{length_left, unheld_list}
-use Rattle.blob_device.proofs.general.Options.{none_or_value, some_there}
 
 -- with no command under way the lists are submitted as they are
 no_choice : {X : Type 0} (b : Bool) (x : X) → (if b then x else x) ≡ x
@@ -84,14 +79,3 @@ start_leaves f d markers st settled lawful start image crash no_chance =
     subst (StandsFor f st None) (sym (crash_as_read d image settled crash)) (start_stands f (as_read d) st markers lawful start)
 
 -- ---- numbers that no u64 has
-
--- no section with such a number is held
-pub none_beyond : {F S : Type 0} {gs : _} {bs : _} {told : Type 0} (a : Archive F (PageBlob S gs)) (opened : OpenedList) (d : Disk)
-    → 1 ≤ a.pair.layout.record_size → IsArchive a bs told opened d → (s : ℕ) → 2 ^ 64 ≤ s → ((state_of a d).lists s ≡ []) × ((state_of a d).synced s ≡ 0)
-none_beyond a opened d pos archive s far =
-    let none : a.pair.index.sections.held s ≡ None = elim (none_or_value (a.pair.index.sections.held s)) [
-      | inl none ↦ none
-      | inr some ↦ absurd (omega (arith, far, archive.pair.index.over.opened_list.number s (inl (some_there (a.pair.index.sections.held s) some.0 some.1))))
-    ] in
-    let empty = unheld_list a.pair pos d s none in
-    (ap (map (filed (filing_of a))) empty, omega (arith, archive.pair.settled.lengths s, length_left a.pair pos d s, ap length empty))

@@ -7,9 +7,10 @@ use Rattle.archives.specs.Commands.{Command, Put, Multi, Get, GetKey, Has, HasAt
 use Rattle.archives.specs.Replies as reply
 use Rattle.archives.specs.Replies.{Reply}
 use Rattle.archives.specs.Machine.{Entry, State, Run, IsReopened, empty_state, has_index, appended, emptied_below, after_sync, after_destroy}
-use Rattle.archives.proofs.MachineLaws.{IsInOrder, run_append}
+use Rattle.archives.proofs.MachineLaws.{run_append}
 use Rattle.ordinal_store.specs.Numbers.{Set, IsRun, AreMissing, IsMissing, IsRunEnd, IsNextRun}
 use Rattle.archives.proofs.Sets.{HasOnly, appended_has_only, each_of, emptied_has_only, empty_has_only, is_lone, lone_runs, none_missing}
+use Rattle.archives.specs.lemmas.MachineLaws.{IsInOrder}
 
 -- a key of eight bytes
 abbrev pub key_of : ℕ → List ℕ

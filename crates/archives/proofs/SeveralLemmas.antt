@@ -14,7 +14,7 @@ use Rattle.blob_device.specs.lemmas.Footprint.{footprint_none, footprint_then, f
 use Rattle.blob_device.specs.lemmas.Moments.{always_start}
 use Rattle.sealed_pages.specs.Reading.{Unchanged}
 use Rattle.sealed_pages.specs.declared.page_blob.PageBlob.{PageBlob}
-use Rattle.sealed_pages.proofs.looking.Looking.{unchanged_now, unchanged_then}
+use Rattle.sealed_pages.specs.lemmas.looking.Looking.{unchanged_now, unchanged_then}
 use Rattle.section_manager.specs.Sections.{section_key}
 use Rattle.paired.specs.Crashes.{IsBlobOf, IsIndexOf, IsOwn}
 use Rattle.paired.specs.Pair.{list_of}

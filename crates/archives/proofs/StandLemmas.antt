@@ -10,7 +10,7 @@ use Rattle.paired.specs.Kept.{Markers, stored_records}
 use Rattle.paired.specs.Opening.{AreNamed, IsInPlace}
 use Rattle.paired.specs.Places.{Follow, end_of}
 use Rattle.paired.specs.Records as pair
-use Rattle.paired.proofs.opening.Ends.{follow_first}
+use Rattle.paired.specs.lemmas.opening.Ends.{follow_first}
 use Rattle.archives.specs.Commands.{Command}
 use Rattle.archives.specs.Filing.{Filing, filed, kept, kept_entries}
 use Rattle.archives.specs.IndexRecord.{index_of}

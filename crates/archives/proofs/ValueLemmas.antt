@@ -8,10 +8,10 @@ use Rattle.blob_device.specs.declared.device.Device as device
 use Rattle.blob_device.specs.lemmas.Footprint.{footprint_then, footprint_wider}
 use Rattle.sealed_pages.specs.Reading.{Unchanged}
 use Rattle.sealed_pages.specs.declared.page_blob.PageBlob.{PageBlob}
-use Rattle.sealed_pages.proofs.looking.Looking.{unchanged_now, unchanged_then}
+use Rattle.paired.specs.lemmas.pair.Failing.{rose_before}
+use Rattle.sealed_pages.specs.lemmas.looking.Looking.{unchanged_now, unchanged_then}
 use Rattle.section_manager.specs.Sections.{section_key}
 use Rattle.paired.specs.Pair.{list_of}
-use Rattle.paired.proofs.pair.Failing.{rose_before}
 use Rattle.archives.specs.Archives.{IsSoundArchive}
 use Rattle.archives.specs.Entries.{HasRecord, ReadsRecordAlone, ReadsRecordAt, ReadsValueOf}
 use Rattle.archives.specs.Gets.{HasNoRecord, HasNotRead, IsSectionBlob, ReadEnds, Reads, ReadsRecord, ReadsValueAlone}

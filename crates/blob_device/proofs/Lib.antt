@@ -2,11 +2,8 @@ pub mod Building
 pub mod CrashLemmas
 pub mod EntryLemmas
 pub mod general
-pub mod GuardsLemmas
 pub mod HistoryLemmas
 pub mod ImageLemmas
-pub mod KeepsLemmas
-pub mod LengthLemmas
 pub mod ListedLemmas
 pub mod Logged
 pub mod Maps
@@ -16,4 +13,3 @@ pub mod Numbers
 pub mod Pieces
 pub mod Places
 pub mod Replay
-pub mod StaysLemmas

@@ -1,6 +1,10 @@
 pub mod Bytes
 pub mod Footprint
+pub mod Guards
+pub mod Keeps
+pub mod Length
 pub mod Marks
 pub mod Moments
 pub mod Opened
 pub mod Puts
+pub mod Stays

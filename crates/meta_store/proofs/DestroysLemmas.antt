@@ -19,7 +19,8 @@ use Rattle.meta_store.specs.Store.{Seen}
 use Rattle.meta_store.proofs.Failing.{failed, failed_later}
 use Rattle.meta_store.proofs.OpenedSides.{both_left, listed_then, others_then, removed_listed, removed_others}
 use Rattle.meta_store.proofs.RemovingLemmas.{both_moments, first_moments, older_gone, removing_keeps}
-use Rattle.meta_store.proofs.Sides.{both_sides, stands_on}
+use Rattle.meta_store.proofs.Sides.{both_sides}
+use Rattle.meta_store.specs.lemmas.Sides.{stands_on}
 
 module _ {K V C D : Type 0} (dev : device.Ghosts D) (f : C → Format K V) (m : Seen K V C) (old : D) where
   moments_of : (new : D) → Always (dev.time old) (dev.time new) (Removing m.store.partition m.store.older (disk (dev.time old))) → RemovalMoments dev f m old new

@@ -7,7 +7,7 @@ use Rattle.std.proofs.lemmas.List.{append-nil, append_assoc, take_all, drop_at, 
 use Rattle.std.proofs.lemmas.List.Concat.{flat_map-append}
 use Rattle.meta_store.specs.Format.{Format}
 use Rattle.meta_store.specs.Copies.{IsStorable, IsEntries, entry_bytes, entries_bytes}
-use Rattle.meta_store.proofs.Bytes.{take_two}
+use Rattle.meta_store.specs.lemmas.Bytes.{take_two}
 use Rattle.meta_store.proofs.Ascending.{sorted_prefix, keys_append, all_last}
 
 module _ {K V : Type 0} (f : Format K V) where

@@ -3,7 +3,7 @@ use Rattle.std.proofs.Common.{◌≡◌, ◌⊎◌, inl, inr, Result, Ok, Err, �
 use Rattle.std.proofs.lemmas.List.{append_assoc, take_at, drop_at, drop-drop}
 use Rattle.std.specs.Int.{w32, to_be_bytes}
 use Rattle.meta_store.specs.Copies.{entry_bytes}
-use Rattle.meta_store.proofs.Bytes.{take_two, length-four, same_number_4}
+use Rattle.meta_store.specs.lemmas.Bytes.{length-four, same_number_4, take_two}
 
 module _ {K V : Type 0} (key_bytes : K → List ℕ) (spelling : V → List ℕ) where
   pub length-entry : (e : K × V) → length (entry_bytes key_bytes spelling e) ≡ length (key_bytes e.0) + 4 + length (spelling e.1)

@@ -33,7 +33,7 @@ use Rattle.meta_store.proofs.OpenedSides.{entered_others, entered_reads, others_
 use Rattle.meta_store.proofs.OpeningLemmas.{left_opened, left_opening, left_stays, right_opened, right_opening}
 use Rattle.meta_store.proofs.OpeningPair.{chosen_storable, one_chosen, one_outcome, opened_stands, pair_on, then_unchanged, unchanged_now}
 use Rattle.meta_store.proofs.OpeningReads.{both_left, both_opened, both_others, both_right, first_left, first_others, first_right, still_opened}
-use Rattle.meta_store.proofs.Reopening.{IsPromised, opening_keeps}
+use Rattle.meta_store.specs.lemmas.Reopening.{IsPromised, opening_keeps}
 
 -- ---- counts of calls
 

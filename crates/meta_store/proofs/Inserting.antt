@@ -17,6 +17,7 @@ use Rattle.meta_store.specs.Entries.{Retained}
 use Rattle.meta_store.specs.Store.{shown, staging}
 use Rattle.meta_store.specs.Lends.{WroteValue, SameMap}
 use Rattle.meta_store.proofs.Ascending.{sorted_below, keys_append}
+use Rattle.meta_store.specs.lemmas.Inserting.{retained_fewer}
 
 module _ {K V : Type 0} (R : K → K → Ordering) where
   -- a key that is above all goes to the end
@@ -91,15 +92,6 @@ retained_from {F = F} {K = K} {V = V} T answers f (e ∷ es) kept ran each =
       retained_from T answers f es rest (subst (λ (g : F). RetainsPairs T g es rest) said.2 ran.5) each,
       ran.6 ∙ ap (λ (v : V). cond b ((e.0, v) ∷ rest) rest) said.1,
     )
-
--- one entry, and what is kept of the others
-fewer_by : {X : Type 0} (b : Bool) (e : X) (es kept rest : List X) → kept ≡ cond b (e ∷ rest) rest → length rest ≤ length es → length kept ≤ length (e ∷ es)
-fewer_by true e es kept rest is fewer = omega (arith, ap length is, fewer)
-fewer_by false e es kept rest is fewer = omega (arith, ap length is, fewer)
-
-pub retained_fewer : {K V : Type 0} (answers : K → V → Bool → Type 0) (es kept : List (K × V)) → Retained answers es kept → length kept ≤ length es
-retained_fewer answers [] kept ran = omega (arith, ap length ran)
-retained_fewer answers (e ∷ es) kept ran = fewer_by ran.0 e es kept ran.1 ran.4 (retained_fewer answers es ran.1 ran.3)
 
 all_by : {X : Type 0} (b : Bool) (e : X) (es kept rest : List X) → kept ≡ cond b (e ∷ rest) rest → length rest ≤ length es → length kept ≡ length (e ∷ es) → (length rest ≡ length es → rest ≡ es) → kept ≡ e ∷ es
 all_by true e es kept rest is fewer same more = is ∙ ap (λ l. e ∷ l) (more (omega (arith, ap length is, same)))

@@ -1,6 +1,4 @@
 pub mod Ascending
-pub mod Bytes
-pub mod Choices
 pub mod DestroysLemmas
 pub mod DeviceCalls
 pub mod EntryLists
@@ -14,14 +12,10 @@ pub mod OpenedSides
 pub mod OpeningLemmas
 pub mod OpeningPair
 pub mod OpeningReads
-pub mod Readings
 pub mod RemovingLemmas
-pub mod Reopening
-pub mod Sealing
 pub mod Sides
 pub mod StagingLemmas
 pub mod StandingLemmas
 pub mod SyncingLemmas
 pub mod SyncsLemmas
 pub mod Texts
-pub mod Uses

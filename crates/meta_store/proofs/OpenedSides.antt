@@ -9,7 +9,8 @@ use Rattle.meta_store.specs.declared.error.Side.{Side}
 use Rattle.meta_store.specs.declared.error.Side.TheVariants.{Left, Right}
 use Rattle.meta_store.specs.Blobs.{blob_of, other_side}
 use Rattle.meta_store.specs.Calls.{IsOpened, OthersOpened, NoReads}
-use Rattle.meta_store.proofs.Sides.{neither, both_sides, sides_apart}
+use Rattle.meta_store.proofs.Sides.{both_sides}
+use Rattle.meta_store.specs.lemmas.Sides.{neither, sides_apart}
 
 -- a removal touches no other entry
 pub removed_others : (p : List ℕ) (side : Side) (k : Key) (old new : OpenedList) → k ≡ blob_of p side → (new ≡ old) ⊎ (new ≡ left old k) → OthersOpened p old new

@@ -8,7 +8,7 @@ use Rattle.blob_device.specs.lemmas.Moments.{always_now, always_then, always_wea
 use Rattle.meta_store.specs.declared.error.Side.TheVariants.{Left, Right}
 use Rattle.meta_store.specs.Blobs.{blob_of, read_bytes}
 use Rattle.meta_store.specs.Opening.{Opens, as_before, begun, made, settled, Opening}
-use Rattle.meta_store.proofs.Sides.{left_apart}
+use Rattle.meta_store.specs.lemmas.Sides.{left_apart}
 
 -- what an opening that returned Ok makes of a blob
 pub opened_settles : (old : Blob) → done Make old ≡ settled_at (read_bytes old)

@@ -10,7 +10,7 @@ use Rattle.meta_store.specs.declared.error.Side.{Side}
 use Rattle.meta_store.specs.declared.error.Side.TheVariants.{Left, Right}
 use Rattle.meta_store.specs.Blobs.{blob_of}
 use Rattle.meta_store.specs.Calls.{IsOpened, MayRead, OthersOpened, NoReads, ReadAtMostOnce}
-use Rattle.meta_store.proofs.Sides.{left_apart}
+use Rattle.meta_store.specs.lemmas.Sides.{left_apart}
 
 module _ (p : List ℕ) (n m : ℕ) (a b : OpenedList) (both : b ≡ entered (entered a (blob_of p Left) n) (blob_of p Right) m) where
   left_entry : b (blob_of p Left) ≡ entered a (blob_of p Left) n (blob_of p Left)

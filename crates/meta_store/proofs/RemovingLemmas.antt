@@ -14,9 +14,11 @@ use Rattle.meta_store.specs.Blobs.{blob_of, other_side}
 use Rattle.meta_store.specs.Crashes.{KeepsAlone, Keeps}
 use Rattle.meta_store.specs.Pairs.{empty_map}
 use Rattle.meta_store.specs.Removing.{Removes, as_before, begun, unseen, gone, Removing}
-use Rattle.meta_store.proofs.Choices.{chosen_on, newer_text, older_absent, both_absent}
-use Rattle.meta_store.proofs.Leaving.{LeavesText, settled_leaves, keeps_of, ChooseEither, goes_of, goes_leaves, OrAbsent, nothing_leaves}
-use Rattle.meta_store.proofs.Sides.{sides_apart, apart, neither, StandsOn}
+use Rattle.meta_store.specs.lemmas.Choices.{both_absent, chosen_on, newer_text, older_absent}
+use Rattle.meta_store.specs.lemmas.Leaving.{ChooseEither, LeavesText, keeps_of, nothing_leaves, settled_leaves}
+use Rattle.meta_store.specs.lemmas.Sides.{StandsOn, neither, sides_apart}
+use Rattle.meta_store.proofs.Leaving.{goes_of, goes_leaves, OrAbsent}
+use Rattle.meta_store.proofs.Sides.{apart}
 
 removes_failed : (old new : Blob) → FailedTo Remove old new → Removes old new
 removes_failed old new (inl is) = begun is

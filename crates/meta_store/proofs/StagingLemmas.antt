@@ -12,9 +12,10 @@ use Rattle.meta_store.specs.Entries.{PutsValue, Retained}
 use Rattle.meta_store.specs.Format.{Format}
 use Rattle.meta_store.specs.Staging.{HasPut, Puts, Retains, SetsFloor, StandsAsBefore}
 use Rattle.meta_store.specs.Store.{MayBeSynced, Seen, Stands, Store, contents_of, staging}
-use Rattle.meta_store.proofs.Inserting.{retained_all, retained_fewer, retained_has}
+use Rattle.meta_store.proofs.Inserting.{retained_all, retained_has}
 use Rattle.meta_store.proofs.StandingLemmas.{stands_changed}
 use Rattle.blob_device.proofs.general.Maps.{all_inserted}
+use Rattle.meta_store.specs.lemmas.Inserting.{retained_fewer}
 
 or_true : (b : Bool) → true ≡ (b || true)
 or_true true = refl

@@ -23,8 +23,9 @@ use Rattle.meta_store.specs.Store.{MayBeSynced, Seen, Stands, contents_of}
 use Rattle.meta_store.specs.Syncs.{PutSyncs, SyncEnds, Syncs, putting}
 use Rattle.meta_store.proofs.Failing.{caused, caused_later}
 use Rattle.meta_store.proofs.OpenedSides.{grew_at, grew_opened, grew_others, grew_partly, grew_reads, grew_then, opened_at, reads_stay}
-use Rattle.meta_store.proofs.Sides.{stands_on}
-use Rattle.meta_store.proofs.SyncingLemmas.{both_alone, both_crashes, settle_at_side, stands_alone, stands_by, sync_wrote, then_stands, write_alone, write_at_side, write_crashes}
+use Rattle.meta_store.specs.lemmas.Sides.{stands_on}
+use Rattle.meta_store.specs.lemmas.Syncing.{both_crashes, stands_alone, stands_by, then_stands, write_crashes}
+use Rattle.meta_store.proofs.SyncingLemmas.{both_alone, settle_at_side, sync_wrote, write_alone, write_at_side}
 
 module _ {K V C D : Type 0} (dev : device.Ghosts D) (f : C → Format K V) (m : Seen K V C) (old : D) (opened : IsOpened m.store.partition (dev.opened old)) where
   -- ---- no call was made

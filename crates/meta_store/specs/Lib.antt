@@ -16,3 +16,4 @@ pub mod Removing
 pub mod Staging
 pub mod Store
 pub mod Syncs
+pub mod lemmas

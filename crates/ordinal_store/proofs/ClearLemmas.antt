@@ -16,8 +16,8 @@ use Rattle.sealed_pages.specs.Contents.{AddsOnly, AllSince}
 use Rattle.sealed_pages.specs.Entries.{IsOpenAt, NoReads}
 use Rattle.sealed_pages.specs.Sparing.{Sparing}
 use Rattle.sealed_pages.specs.unsealed.Writing.{HoldsOnly, Over, WriteBuffer, blob_key, bytes_of, run_of, shown, size_of}
-use Rattle.sealed_pages.proofs.unsealed.ContentLemmas.{adds_keep}
-use Rattle.sealed_pages.proofs.unsealed.SparingLemmas.{sparing_start, sparing_weaker}
+use Rattle.sealed_pages.specs.lemmas.unsealed.Content.{adds_keep}
+use Rattle.sealed_pages.specs.lemmas.unsealed.Sparing.{sparing_start, sparing_weaker}
 use Rattle.ordinal_store.specs.Mending.{Clearing, IsClearable, IsCleared, IsInMarked, StaysShort, is_marked}
 use Rattle.ordinal_store.specs.Slots.{slot_at}
 use Rattle.ordinal_store.specs.Stores.{Sight, now}

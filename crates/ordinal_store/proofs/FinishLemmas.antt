@@ -7,7 +7,7 @@ use Rattle.blob_device.specs.Disk.{Blob, settled_at}
 use Rattle.sealed_pages.specs.declared.write_blob.WriteBlob.{WriteBlob}
 use Rattle.sealed_pages.specs.Entries.{IsOpenAt}
 use Rattle.sealed_pages.specs.unsealed.Writing.{Over, blob_key, bytes_of, is_unsettled, shown, size_of}
-use Rattle.sealed_pages.proofs.unsealed.WritingLemmas.{settled_parts}
+use Rattle.sealed_pages.specs.lemmas.unsealed.Writing.{settled_parts}
 use Rattle.ordinal_store.specs.Calls.{as_read}
 use Rattle.ordinal_store.specs.Marking.{IsKept, IsMended, IsWhole, Marking, is_wanted}
 use Rattle.ordinal_store.specs.Mending.{IsMade}

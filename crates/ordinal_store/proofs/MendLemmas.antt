@@ -16,9 +16,9 @@ use Rattle.sealed_pages.specs.Contents.{AddsOnly}
 use Rattle.sealed_pages.specs.Entries.{IsOpenAt, NoReads}
 use Rattle.sealed_pages.specs.Sparing.{Sparing}
 use Rattle.sealed_pages.specs.unsealed.Writing.{Over, WriteBuffer, blob_key, bytes_of, is_unsettled, run_of, shown, size_of}
-use Rattle.sealed_pages.proofs.unsealed.LastingLemmas.{outside_none}
-use Rattle.sealed_pages.proofs.unsealed.SparingLemmas.{sparing_start, sparing_then, sparing_weaker}
-use Rattle.sealed_pages.proofs.unsealed.WritingLemmas.{idle_bytes, idle_parts, settled_parts}
+use Rattle.sealed_pages.specs.lemmas.unsealed.Lasting.{outside_none}
+use Rattle.sealed_pages.specs.lemmas.unsealed.Sparing.{sparing_start, sparing_then, sparing_weaker}
+use Rattle.sealed_pages.specs.lemmas.unsealed.Writing.{idle_bytes, idle_parts, settled_parts}
 use Rattle.ordinal_store.specs.Adopting.{IsReady}
 use Rattle.ordinal_store.specs.Calls.{HasFailed}
 use Rattle.ordinal_store.specs.Mending.{Clearing, IsClearable, IsCleared, IsCut, IsInLeft, IsInMarked, IsMade, Mending, StaysShort, whole}

@@ -5,7 +5,7 @@ use Rattle.blob_device.specs.Change.{written}
 use Rattle.blob_device.specs.Disk.{Key, Outside}
 use Rattle.blob_device.specs.Timeline.{Timeline}
 use Rattle.sealed_pages.specs.Sparing.{Sparing}
-use Rattle.sealed_pages.proofs.unsealed.SparingLemmas.{sparing_then}
+use Rattle.sealed_pages.specs.lemmas.unsealed.Sparing.{sparing_then}
 use Rattle.sealed_pages.specs.View.{Within}
 use Rattle.std.specs.Prelude.{Bool, Result, Ok, Err, OnErr}
 use Rattle.std.specs.Result.{IsErrOf}

@@ -14,7 +14,7 @@ use Rattle.sealed_pages.specs.Sparing.{Spares, Sparing}
 use Rattle.sealed_pages.specs.View.{Within}
 use Rattle.sealed_pages.specs.unsealed.Writing.{Over, bytes_of, run_of, shown, size_of}
 use Rattle.sealed_pages.specs.declared.write_blob.WriteBlob.{WriteBlob}
-use Rattle.sealed_pages.proofs.unsealed.ContentLemmas.{adds_keep}
+use Rattle.sealed_pages.specs.lemmas.unsealed.Content.{adds_keep}
 use Rattle.ordinal_store.specs.Durable.{IsDurable, Stays}
 use Rattle.ordinal_store.specs.Slots.{Layout, place_of, position_of, section_of, slot_at, slot_size}
 use Rattle.ordinal_store.specs.Stores.{IsQuiet, Store, key_of}

@@ -5,7 +5,7 @@ use Rattle.std.proofs.Common.{inl, inr, sym, ◌∙◌, ap, subst, arith, get_or
 use Rattle.blob_device.specs.Change.{Make}
 use Rattle.blob_device.specs.Disk.{Blob, Disk, Key, MayLeave, longest, reads, settled_at}
 use Rattle.blob_device.specs.Timeline.{Always, OnlyAt}
-use Rattle.blob_device.proofs.GuardsLemmas.{guards_done}
+use Rattle.blob_device.specs.lemmas.Guards.{guards_done}
 use Rattle.blob_device.specs.lemmas.Moments.{always_now, always_then, always_weaker}
 use Rattle.sealed_pages.specs.declared.write_blob.WriteBlob.{WriteBlob}
 use Rattle.sealed_pages.specs.Sparing.{Spares}

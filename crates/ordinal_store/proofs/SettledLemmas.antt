@@ -6,15 +6,15 @@ use Rattle.std.proofs.lemmas.List.{get_or-take, get_or-drop}
 use Rattle.blob_device.specs.Disk.{Blob, Disk, Key, Outside, longest}
 use Rattle.blob_device.specs.Opened.{OpenedList}
 use Rattle.blob_device.specs.Timeline.{Always, OnlyAt, Timeline, disk}
-use Rattle.blob_device.proofs.GuardsLemmas.{guards_settled}
+use Rattle.blob_device.specs.lemmas.Guards.{guards_settled}
+use Rattle.sealed_pages.specs.lemmas.unsealed.Lasting.{outside_none}
+use Rattle.sealed_pages.specs.lemmas.unsealed.Writing.{idle_parts, settled_parts}
 use Rattle.blob_device.specs.lemmas.Puts.{same_or_other}
 use Rattle.sealed_pages.specs.Contents.{AddsOnly}
 use Rattle.sealed_pages.specs.Sparing.{Spares, Sparing}
 use Rattle.sealed_pages.specs.View.{Within}
 use Rattle.sealed_pages.specs.unsealed.Writing.{Over, bytes_of, is_unsettled, run_of, shown, size_of}
 use Rattle.sealed_pages.specs.declared.write_blob.WriteBlob.{WriteBlob}
-use Rattle.sealed_pages.proofs.unsealed.LastingLemmas.{outside_none}
-use Rattle.sealed_pages.proofs.unsealed.WritingLemmas.{idle_parts, settled_parts}
 use Rattle.ordinal_store.specs.Durable.{IsDurable, StandsFor, Stays}
 use Rattle.ordinal_store.specs.Slots.{place_of, position_of, section_of, slot_at, slot_size}
 use Rattle.ordinal_store.specs.Stores.{IsCommitted, IsQuiet, IsQuietIn, IsUsable, Store, has, key_of, slots_of}

@@ -10,7 +10,7 @@ use Rattle.sealed_pages.specs.Contents.{AddsOnly}
 use Rattle.sealed_pages.specs.Entries.{IsOpenAt, NoReads}
 use Rattle.sealed_pages.specs.Sparing.{Spares, Sparing}
 use Rattle.sealed_pages.specs.unsealed.Writing.{Over, WriteBuffer, blob_key, bytes_of, is_unsettled, run_of, shown, size_of}
-use Rattle.sealed_pages.proofs.unsealed.LastingLemmas.{outside_none}
+use Rattle.sealed_pages.specs.lemmas.unsealed.Lasting.{outside_none}
 use Rattle.ordinal_store.specs.Calls.{IsBlobOf}
 use Rattle.ordinal_store.specs.Durable.{Stays}
 use Rattle.ordinal_store.specs.Slots.{place_of, position_of, section_of, slot_at, slot_size}

@@ -22,7 +22,9 @@ use Rattle.sealed_pages.specs.declared.write_blob.WriteBlob.{WriteBlob}
 use Rattle.sealed_pages.specs.Contents.{KeepsAll, AddsOnly}
 use Rattle.sealed_pages.specs.Sparing.{Sparing}
 use Rattle.sealed_pages.specs.unsealed.Writing.{shown, blob_key, run_of, Joins, HoldsOnly, StaysBelow, is_idle}
-use Rattle.sealed_pages.proofs.unsealed.ContentLemmas.{adds_keep, keeps_now}
+use Rattle.paired.specs.lemmas.Glob.{Serves, buffers, held_bytes, kept_prefix, no_bytes, outlasts_of, serves_of}
+use Rattle.sealed_pages.specs.lemmas.unsealed.Content.{adds_keep, keeps_now}
+use Rattle.section_manager.specs.lemmas.buffers.UnsealedCalls.{crash_keeps, prefix_itself}
 use Rattle.section_manager.specs.Prefixes.{IsPrefixOf}
 use Rattle.section_manager.specs.Leaving.{AllMoments}
 use Rattle.section_manager.specs.Lasting.{IsOpening}
@@ -30,10 +32,9 @@ use Rattle.section_manager.specs.Setting.{Setting}
 use Rattle.section_manager.specs.Sections.{Sections, key_of}
 use Rattle.section_manager.specs.unsealed.Buffer.{Stands, IsWhole, KeepsBytes, content_of, count_of, is_unsettled}
 use Rattle.section_manager.specs.unsealed.Laws.{passes, idle_parts}
-use Rattle.section_manager.proofs.buffers.UnsealedCalls.{crash_keeps, prefix_itself}
 use Rattle.paired.specs.glob.Lasting.{Outlasts, IsBeginning, settled_bytes}
 use Rattle.paired.specs.glob.Sections.{section_bytes, section_size, settled_size, size_held, settled_held, HadPrefixes, TakesMore, IsGlob}
-use Rattle.paired.proofs.GlobLemmas.{buffers, kept_prefix, prefix_longer, prefixes_longer, Serves, idle_serves, serves_of, outlasts_of, held_bytes, no_bytes}
+use Rattle.paired.proofs.GlobLemmas.{prefix_longer, prefixes_longer, idle_serves}
 use Rattle.blob_device.specs.Lengths.{length-written}
 use Rattle.blob_device.proofs.general.Options.{none_or_value}
 

@@ -1,5 +1,5 @@
 -- What the check of the markers has found, against the disk: where the last value below each marker ends, and why a marker is refused.
-use Rattle.std.proofs.Common.{◌≡◌, ◌↔◌, inl, inr, ℕ, zero, suc, ◌+◌, ◌*◌, ◌-◌, ◌<◌, ◌≤◌, Bool, cond, List, [], length, IsTrue, Option, None, Some, IsSomeAnd, unwrap_or, true, false, refl, sym, ◌∙◌, ap, subst, arith}
+use Rattle.std.proofs.Common.{◌≡◌, ◌↔◌, inl, inr, ℕ, zero, suc, ◌+◌, ◌*◌, ◌-◌, ◌<◌, ◌≤◌, Bool, cond, List, [], length, IsTrue, Option, None, Some, IsSomeAnd, unwrap_or, false, refl, sym, ◌∙◌, ap, subst, arith}
 use Rattle.std.specs.Prelude.{is_some, IsSome}
 use Rattle.std.proofs.lemmas.Bool.{false_from_ne_true}
 use Rattle.blob_device.specs.Disk.{Disk}
@@ -15,8 +15,9 @@ use Rattle.paired.specs.glob.Sections.{size_held, section_bytes, section_size, I
 use Rattle.paired.specs.Kept.{Layout, content_at}
 use Rattle.paired.specs.Opening.{as_read}
 use Rattle.paired.specs.OpeningRefusing.{EndsWithin, IsLost, IsOutside}
-use Rattle.paired.proofs.GlobLemmas.{buffers, section_counted}
+use Rattle.paired.specs.lemmas.Glob.{buffers, section_counted}
 use Rattle.blob_device.proofs.general.Options.{none_or_value}
+use Rattle.paired.specs.lemmas.Boundary.{content_there}
 
 -- the item of a boundary
 pub record Bounded {V : Type 0} (B : V → Type 0) (o : Option (Option V)) : Type 0 where
@@ -35,10 +36,6 @@ pub boundary_as : {V : Type 0} (seal : List ℕ → ℕ) (size : ℕ) (spelling 
 boundary_as seal size spelling accepted d s n o p q P Q partition pages has =
     subst (λ (x : List ℕ). IsSomeAnd o (λ y. IsSomeAnd y (IsBoundary seal Q size spelling accepted (d (section_key x s)).content n))) partition
     (subst (λ (k : ℕ). IsSomeAnd o (λ y. IsSomeAnd y (IsBoundary seal k size spelling accepted (d (section_key p s)).content n))) pages has)
-
--- what stands in a blob that is there, and nothing where none is
-pub content_there : (d : Disk) (partition : List ℕ) (s : ℕ) → (d (section_key partition s)).there ≡ true → content_at (as_read d) partition s ≡ (d (section_key partition s)).content
-content_there d partition s there = ap (λ (b : Bool). unwrap_or (cond b (Some (d (section_key partition s)).content) None) []) there
 
 pub content_absent : (d : Disk) (partition : List ℕ) (s : ℕ) → (d (section_key partition s)).there ≡ false → content_at (as_read d) partition s ≡ []
 content_absent d partition s absent = ap (λ (b : Bool). unwrap_or (cond b (Some (d (section_key partition s)).content) None) []) absent

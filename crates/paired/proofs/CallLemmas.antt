@@ -10,9 +10,9 @@ use Rattle.sealed_pages.specs.declared.write_blob.WriteBlob.{WriteBlob}
 use Rattle.section_manager.specs.Setting.{Setting}
 use Rattle.section_manager.specs.Sections.{Sections, section_key, key_of, IsHeld, IsKnown, IsGone, IsSame, SameBounds, IsOver, IsSynced, IsCut}
 use Rattle.section_manager.specs.Lasting.{Syncing, Cutting, Truncating, Removing, IsLonger, IsUnsettled}
-use Rattle.section_manager.proofs.sections.RemoveLemmas.{gone_unknown}
+use Rattle.paired.specs.lemmas.Glob.{Serves, buffers, glob_one, no_bytes, other_key, same_bytes, serves_of}
+use Rattle.section_manager.specs.lemmas.sections.Remove.{gone_unknown}
 use Rattle.paired.specs.glob.Sections.{section_bytes, HasSettled, IsAllSettled, IsGlob}
-use Rattle.paired.proofs.GlobLemmas.{buffers, Serves, serves_of, glob_one, no_bytes, other_key, same_bytes}
 use Rattle.paired.proofs.StepLemmas.{of_some, Steps, step_synced, step_cut, step_same, glob_steps, synced_bytes, synced_settled, synced_all, cut_bytes, cut_settled, cut_all}
 use Rattle.blob_device.proofs.general.Options.{none_or_value, some_same, some_there, value_of}
 

@@ -17,9 +17,10 @@ use Rattle.paired.specs.Kept.{Layout, marker_of, content_at, stored_records, is_
 use Rattle.paired.specs.Opening.{as_read, Relation, IsOrder, APrefix, UpTo}
 use Rattle.paired.specs.Pair.{AreApart}
 use Rattle.paired.specs.Records.{records, unbroken_prefix, entry_of}
-use Rattle.paired.proofs.Ends.{Bounds, Ends}
+use Rattle.paired.proofs.Ends.{Bounds}
 use Rattle.paired.proofs.opening.Ends.{prefix_order, up_to_order, cut_prefix, cut_up_to}
-use Rattle.paired.proofs.reconcile.Resting.{Resting}
+use Rattle.paired.specs.lemmas.Ends.{Ends}
+use Rattle.paired.specs.lemmas.reconcile.Resting.{Resting}
 use Rattle.blob_device.proofs.general.Options.{some_same}
 
 -- n at that section alone

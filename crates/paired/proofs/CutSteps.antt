@@ -13,7 +13,9 @@ use Rattle.section_manager.specs.Setting.{Setting}
 use Rattle.segments.specs.FixedLists.{Lists}
 use Rattle.value_codec.specs.declared.key.Key8.{Key8}
 use Rattle.meta_store.specs.Store.{Store}
-use Rattle.meta_store.proofs.Uses.{IsReadable}
+use Rattle.meta_store.specs.lemmas.Uses.{IsReadable}
+use Rattle.paired.specs.lemmas.Ends.{Ends}
+use Rattle.paired.specs.lemmas.reconcile.Resting.{Known, known_of, stored_at, values_at, values_key, values_number}
 use Rattle.paired.specs.Crashes.{IsIndexOf}
 use Rattle.paired.specs.glob.Lasting.{Cutting}
 use Rattle.paired.specs.glob.Sections as glob
@@ -22,8 +24,7 @@ use Rattle.paired.specs.Opening.{as_read, MayBeOpened, Relation, IsOrder, Recall
 use Rattle.paired.specs.Pair.{AreApart}
 use Rattle.paired.specs.Reconciling.{CutTo, EndOf, Shortening}
 use Rattle.paired.specs.Records.{is_sound, unbroken_prefix}
-use Rattle.paired.proofs.Ends.{Bounds, CutsTo, Ends, Between, bounds_of, none_of_not}
-use Rattle.paired.proofs.reconcile.Resting.{Known, known_of, values_number, values_key, stored_at, values_at}
+use Rattle.paired.proofs.Ends.{Bounds, CutsTo, Between, bounds_of, none_of_not}
 use Rattle.paired.proofs.reconcile.Phases.{shortening_cuts, shortening_recalls, cutting_recalls, removing_recalls}
 use Rattle.paired.proofs.Steps.{Step}
 

@@ -1,6 +1,5 @@
 pub mod tracking
 pub mod FailLemmas
-pub mod FrameLemmas
 pub mod GlobLemmas
 pub mod StepLemmas
 pub mod AppendLemmas
@@ -13,7 +12,6 @@ pub mod opening
 pub mod BoundaryLemmas
 pub mod SoundLemmas
 pub mod RunLemmas
-pub mod GivenBack
 pub mod ReplayLemmas
 pub mod ReplayLemmasRecalls
 pub mod SortLemmas

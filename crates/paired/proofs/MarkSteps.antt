@@ -16,15 +16,17 @@ use Rattle.meta_store.specs.Blobs.{blob_of, bytes_of}
 use Rattle.meta_store.specs.Crashes as metadata
 use Rattle.meta_store.specs.Pairs.{HoldMap}
 use Rattle.meta_store.specs.Store.{Store, contents_of}
-use Rattle.meta_store.proofs.Uses.{IsReadable}
+use Rattle.meta_store.specs.lemmas.Uses.{IsReadable}
+use Rattle.paired.specs.lemmas.opening.Ends.{AreTrueOf}
+use Rattle.paired.specs.lemmas.opening.Phases.{IsBack, IsPhase, marks_phase, not_index, not_values}
+use Rattle.paired.specs.lemmas.reconcile.Phases.{markers_one}
+use Rattle.paired.specs.lemmas.reconcile.Resting.{Known, index_rest, known_no_chance, reads_there, rest_left, rest_there}
 use Rattle.paired.specs.Crashes.{HoldMarkers, IsCopy}
 use Rattle.paired.specs.Kept.{Layout, Markers, HasNoFloor, content_at}
 use Rattle.paired.specs.Opening.{as_read, IsLawful, MayBeOpened, Same, Recalls}
 use Rattle.paired.specs.Pair.{AreApart}
-use Rattle.paired.proofs.opening.Ends.{AreTrueOf, AreLowered, lowered_true}
-use Rattle.paired.proofs.opening.Phases.{IsPhase, IsBack, not_index, not_values, marks_phase}
-use Rattle.paired.proofs.reconcile.Phases.{bare_of, index_left, values_left, markers_one}
-use Rattle.paired.proofs.reconcile.Resting.{Known, known_no_chance, index_rest, rest_left, rest_there, reads_there}
+use Rattle.paired.proofs.opening.Ends.{AreLowered, lowered_true}
+use Rattle.paired.proofs.reconcile.Phases.{bare_of, index_left, values_left}
 use Rattle.paired.proofs.Steps.{Step}
 use Rattle.blob_device.proofs.general.Options.{none_or_value}
 

@@ -1,8 +1,8 @@
 -- Steps of opening both parts of a pair: whose blobs are whose, which sections are known, and what one part's opening says of the disk before the other's.
-use Rattle.std.specs.Prelude.{◌≡◌, ◌≢◌, ◌⊎◌, ◌↔◌, ℕ, ◌+◌, ◌-◌, ◌*◌, ◌^◌, ◌<◌, ◌≤◌, List, IsTrue, IsSome, IsSomeAnd, Option, None, Some, unwrap_or, Result, Err}
+use Rattle.std.specs.Prelude.{◌≡◌, ◌⊎◌, ◌↔◌, ℕ, ◌+◌, ◌-◌, ◌*◌, ◌^◌, ◌<◌, ◌≤◌, List, IsTrue, IsSome, IsSomeAnd, Option, None, Some, unwrap_or, Result, Err}
 use Rattle.std.proofs.Common.{inl, inr, refl, sym, ◌∙◌, ap, subst, arith}
 use Rattle.std.specs.Result.{IsErrOf}
-use Rattle.blob_device.specs.Disk.{Key, Blob, Disk}
+use Rattle.blob_device.specs.Disk.{Blob, Disk}
 use Rattle.blob_device.specs.Opened.{OpenedList}
 use Rattle.blob_device.specs.declared.device.Device as device
 use Rattle.sealed_pages.specs.Reads.{IsCovered}
@@ -25,10 +25,6 @@ use Rattle.paired.specs.Kept.{Layout}
 use Rattle.paired.specs.OpeningRefusing.{IsLost, IsUnreadable}
 use Rattle.paired.proofs.opening.StartCauses.{PartsRefuse}
 use Rattle.blob_device.proofs.general.Options.{none_or_value, value_of}
-
--- no section of the one partition has the blob of one of the other
-pub keys_apart : (i v : List ℕ) → i ≢ v → (s t : ℕ) → section_key v s ≢ section_key i t
-keys_apart i v differ s t same = differ (sym (ap (λ (k : Key). k.0) same))
 
 -- A section that is known is held, where what is not stands above a bound that no number passes.
 pub unknown : {F B : Type 0} {g : buffer.Ghosts B} {gives : F → Setting} {told : Type 0} (m : Sections F B) (opened : OpenedList) (d : Disk) (ceiling : ℕ) → IsOver g gives told m opened d → 2 ^ 64 ≤ ceiling + 1

@@ -14,8 +14,8 @@ use Rattle.section_manager.specs.unsealed.Buffer.{content_of, count_of}
 use Rattle.paired.specs.Frames.{bytes_at, with_number, frame, HasFrame, IsSealed, IsBroken, Differ}
 use Rattle.paired.specs.glob.Reading.{IsInside, IsMismatch}
 use Rattle.paired.specs.glob.Sections.{section_bytes, size_held, IsGlob}
-use Rattle.paired.proofs.FrameLemmas as frames
-use Rattle.paired.proofs.GlobLemmas.{buffers, held_bytes, no_bytes, section_counted}
+use Rattle.paired.specs.lemmas.Frame as frames
+use Rattle.paired.specs.lemmas.Glob.{buffers, held_bytes, no_bytes, section_counted}
 use Rattle.blob_device.proofs.general.Options.{none_or_value, some_there}
 
 module _ (seal : List ℕ → ℕ) where

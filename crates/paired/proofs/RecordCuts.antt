@@ -17,7 +17,11 @@ use Rattle.sealed_pages.specs.ChanceSeal as chance
 use Rattle.sealed_pages.specs.declared.page_blob.PageBlob.{PageBlob}
 use Rattle.sealed_pages.specs.Flushing.{Alone}
 use Rattle.sealed_pages.specs.Shown.{shown}
-use Rattle.sealed_pages.proofs.memory.Holding.{fit_size}
+use Rattle.sealed_pages.specs.lemmas.memory.Holding.{fit_size}
+use Rattle.section_manager.specs.lemmas.sections.Cut.{CutCall, CutMade, CutTried, CutWalked, cut_at, cut_moves, cut_same, cut_tried_more, cut_tried_start, cut_walked_more, cut_walked_start, cutting_of}
+use Rattle.section_manager.specs.lemmas.sections.Over.{same_key}
+use Rattle.section_manager.specs.lemmas.sections.Sync.{BufferLaws}
+use Rattle.segments.specs.lemmas.adding.Write.{ArePages, are_pages, bytes_here, leaves_sealed, size_here}
 use Rattle.section_manager.specs.contracts.sealed.PageBlobSectionBuffer.TheImpl.{ghosts}
 use Rattle.section_manager.specs.declared.buffer.SectionBuffer as buffer
 use Rattle.section_manager.specs.declared.journal.Error.{Error}
@@ -31,11 +35,7 @@ use Rattle.section_manager.specs.Sealed.{MayKeep}
 use Rattle.section_manager.specs.SealedLaws.{passes, looser, counted, all_settled, rested, found_again, sealed_keeps}
 use Rattle.section_manager.specs.Sections.{Sections, key_of, IsHeld, IsSame, SameBounds, IsKeyOf, IsCut}
 use Rattle.section_manager.specs.Setting.{Setting}
-use Rattle.section_manager.proofs.sections.CutLemmas.{CutWalked, CutTried, CutCall, CutMade, cut_same, cut_moves, cut_at, cut_tried_start, cut_walked_start, cut_tried_more, cut_walked_more, cutting_of}
-use Rattle.section_manager.proofs.sections.OverLemmas.{same_key}
-use Rattle.section_manager.proofs.sections.SyncLemmas.{BufferLaws}
 use Rattle.segments.specs.FixedLists.{Lists, IsJournal, IsProven, section_bytes, section_size}
-use Rattle.segments.proofs.adding.WriteLemmas.{ArePages, are_pages, leaves_sealed, size_here, bytes_here}
 use Rattle.paired.specs.Reconciling.{CutTo, Shortening}
 use Rattle.blob_device.proofs.general.Options.{none_or_value, some_of, some_same, value_of}
 

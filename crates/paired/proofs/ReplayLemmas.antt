@@ -6,22 +6,22 @@ use Rattle.std.proofs.lemmas.Bool.Decides.{nat_tests}
 use Rattle.std.proofs.lemmas.List.{get_or-take, take_all}
 use Rattle.std.proofs.lemmas.Nat.{le-div}
 use Rattle.std.proofs.Math.Nat.{div-mul-le_self, div-le_self}
-use Rattle.std.proofs.Math.Numerals.{add-one}
 use Rattle.blob_device.specs.Disk.{Disk}
 use Rattle.sealed_pages.specs.declared.page_blob.PageBlob.{PageBlob}
 use Rattle.section_manager.specs.Sections.{key_of, IsHeld}
-use Rattle.segments.specs.FixedItems.{item_count, item_at}
+use Rattle.segments.specs.FixedItems.{item_at}
 use Rattle.segments.specs.FixedReplay.{Place, Walk, Gives, Stops, IsLeft, StandsBefore, kept_of, kept_bytes}
 use Rattle.meta_store.specs.Store.{Store}
 use Rattle.value_codec.specs.declared.key.Key8.{Key8}
 use Rattle.paired.specs.glob.Sections as glob
 use Rattle.paired.specs.Kept.{marker_of}
 use Rattle.paired.specs.Places.{last_end}
-use Rattle.paired.specs.Records.{each_below, records, unbroken_prefix, is_sound}
+use Rattle.paired.specs.Records.{records, unbroken_prefix, is_sound}
 use Rattle.paired.specs.Replaying.{Run, marker, HasFailed, HasGiven, is_sound_over, records_over, records_given, IsDue, IsUnbroken, IsGood, IsEnd, IsChecked, GivesRecord, LosesRecords, Sorts}
-use Rattle.paired.proofs.opening.Ends.{prefix_stops}
+use Rattle.paired.specs.lemmas.opening.Ends.{prefix_stops}
 use Rattle.paired.specs.lemmas.Records.{last_end_at, records-take, length-records}
 use Rattle.blob_device.proofs.general.Options.{none_or_value, some_same}
+use Rattle.paired.specs.lemmas.Replay.{record_at}
 
 below : (m n : ℕ) → m < n → nat_lt m n ≡ true
 below m n lt = grind (arith, nat_tests)
@@ -90,14 +90,6 @@ module _ (sound : List ℕ → Bool) (m : ℕ) where
       from_zero (inr is) = inr is
 
 -- ---- records by their bytes
-get_or-each_below : {X : Type 0} (n p : ℕ) (f : ℕ → X) (x : X) → p < n → get_or (each_below n f) p x ≡ f p
-get_or-each_below zero p f x lt = absurd (omega (arith, lt))
-get_or-each_below (suc n) zero f x lt = refl
-get_or-each_below (suc n) (suc p) f x lt = get_or-each_below n p (λ i. f (i + 1)) x (omega (arith, lt)) ∙ ap f (add-one p)
-
--- the record at p is item p
-pub record_at : (size : ℕ) (bytes : List ℕ) (p : ℕ) → p < length bytes / size → get_or (records size bytes) p [] ≡ item_at size bytes p
-record_at size bytes p lt = get_or-each_below (item_count size bytes) p (item_at size bytes) [] lt
 
 whole_items : (size : ℕ) (a : List ℕ) → 1 ≤ size → records size (take (length a / size * size) a) ≡ records size a
 whole_items size a pos =

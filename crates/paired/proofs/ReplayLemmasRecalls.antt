@@ -22,19 +22,19 @@ use Rattle.section_manager.specs.SealedLaws.{all_settled}
 use Rattle.section_manager.specs.Sections.{Sections, section_key, key_of}
 use Rattle.section_manager.specs.Setting.{Setting}
 use Rattle.segments.specs.FixedReplay.{Walk, Replaying}
-use Rattle.segments.proofs.adding.WriteLemmas.{ArePages}
+use Rattle.paired.specs.lemmas.Glob.{buffers}
+use Rattle.paired.specs.lemmas.opening.Ends.{KeptHere}
+use Rattle.paired.specs.lemmas.opening.Laws.{left_as_read}
+use Rattle.paired.specs.lemmas.opening.Phases.{IsBack, IsPhase, sections_of}
+use Rattle.paired.specs.lemmas.pair.Synced.{Here}
+use Rattle.paired.specs.lemmas.reconcile.Resting.{Rests, index_key, index_number, index_rest, paged, values_absent, values_rest}
+use Rattle.segments.specs.lemmas.adding.Write.{ArePages}
 use Rattle.paired.specs.Crashes.{IsIndexOf, NoChanceSeal}
 use Rattle.paired.specs.Kept.{Layout, Markers, marker_of, content_at, stored_records, is_sound_in}
 use Rattle.paired.specs.Opening.{MayBeOpened, RecallsAlone}
 use Rattle.paired.specs.Records.{records, is_sound, unbroken_prefix, entry_of}
 use Rattle.paired.specs.Replaying.{Run, pair_of, IsRun, IsOpeningRun}
-use Rattle.paired.proofs.GlobLemmas.{buffers}
-use Rattle.paired.proofs.opening.Ends.{KeptHere}
-use Rattle.paired.proofs.opening.Laws.{left_as_read}
-use Rattle.paired.proofs.opening.Phases.{IsPhase, IsBack, sections_of}
 use Rattle.paired.specs.Pair.{AreApart}
-use Rattle.paired.proofs.pair.Synced.{Here}
-use Rattle.paired.proofs.reconcile.Resting.{Rests, index_number, index_key, paged, index_rest, values_rest, values_absent}
 use Rattle.paired.proofs.ReplayLemmas.{records_of_items}
 use Rattle.blob_device.proofs.general.Options.{none_or_value}
 

@@ -9,9 +9,9 @@ use Rattle.section_manager.specs.declared.journal.Error.TheVariants.{ChecksumMis
 use Rattle.paired.specs.Frames.{bytes_at, frame, IsSealed}
 use Rattle.paired.specs.glob.Reading.{IsMismatch}
 use Rattle.paired.specs.Records.{is_sound}
-use Rattle.paired.proofs.FrameLemmas as frames
-use Rattle.paired.proofs.KeptLemmas.{sound_from}
-use Rattle.paired.proofs.pair.Reads.{frame_spells, sound_unbroken}
+use Rattle.paired.specs.lemmas.Frame as frames
+use Rattle.paired.specs.lemmas.Kept.{sound_from}
+use Rattle.paired.specs.lemmas.pair.Reads.{frame_spells, sound_unbroken}
 use Rattle.paired.proofs.ReadLemmas.{Ends, frame_at, broken_at}
 
 module _ (seal : List ℕ → ℕ) (fits : (spelled : List ℕ) → seal spelled < 2 ^ 32) where

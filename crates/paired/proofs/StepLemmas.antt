@@ -19,8 +19,9 @@ use Rattle.section_manager.specs.unsealed.Buffer.{Stands, IsWhole, MayKeep, cont
 use Rattle.section_manager.specs.unsealed.Laws.{all_settled, rested, found_again}
 use Rattle.paired.specs.glob.Lasting as lasting
 use Rattle.paired.specs.glob.Sections.{section_bytes, HadPrefixes, HasSettled, IsAllSettled, IsGlob}
-use Rattle.paired.proofs.GlobLemmas.{buffers, idle_takes, idle_behind, idle_whole, rested_prefixes, Serves, idle_serves, outlasts_of, held_bytes, has_settled, glob_of, serves_of}
+use Rattle.paired.proofs.GlobLemmas.{idle_takes, idle_behind, rested_prefixes, idle_serves}
 use Rattle.blob_device.proofs.general.Options.{has_value, none_or_value}
+use Rattle.paired.specs.lemmas.Glob.{Serves, buffers, glob_of, has_settled, held_bytes, idle_whole, outlasts_of, serves_of}
 
 pub of_some : {T : Type 0} (o : Option T) (P : T → Type 0) (v : T) → o ≡ Some v → IsSomeAnd o P → P v
 of_some {T = T} o P v is has = subst (λ (x : Option T). IsSomeAnd x P) is has

@@ -8,7 +8,7 @@ use Rattle.paired.specs.Crashes.{InOrder}
 use Rattle.paired.specs.Kept.{Layout}
 use Rattle.paired.specs.Opening.{Relation, IsOrder, RecallsBy}
 use Rattle.paired.specs.Records.{Entry}
-use Rattle.paired.proofs.opening.Laws.{recalls_itself, recalls_on_by, recalls_weaker}
+use Rattle.paired.specs.lemmas.opening.Laws.{recalls_itself, recalls_on_by, recalls_weaker}
 use Rattle.paired.proofs.pair.Settling.{in_order, in_order_then}
 
 -- no blob that P names changes

@@ -4,8 +4,8 @@ use Rattle.std.proofs.lemmas.Bool.{or_parts, not-false}
 use Rattle.sealed_pages.specs.declared.write_blob.WriteBlob.{WriteBlob}
 use Rattle.sealed_pages.specs.Tails.{tail_after, run_at_end, LeavesPending}
 use Rattle.sealed_pages.specs.unsealed.Writing.{shown, is_idle, StandsBehind}
-use Rattle.sealed_pages.proofs.unsealed.Tails.{end_behind}
-use Rattle.sealed_pages.proofs.unsealed.WritingLemmas.{idle_parts}
+use Rattle.sealed_pages.specs.lemmas.unsealed.Tails.{end_behind}
+use Rattle.sealed_pages.specs.lemmas.unsealed.Writing.{idle_parts}
 use Rattle.section_manager.specs.declared.unsealed.WriteFactory.{WriteFactory}
 use Rattle.section_manager.specs.Sections.{Sections}
 use Rattle.section_manager.specs.unsealed.Buffer.{is_unsettled}

@@ -16,10 +16,15 @@ use Rattle.section_manager.specs.Sections.{section_key, key_of, IsHeld, IsKnown}
 use Rattle.section_manager.specs.lemmas.Keys.{key_injective}
 use Rattle.segments.specs.FixedBounds.{CuttingTail}
 use Rattle.segments.specs.FixedLists.{Lists}
-use Rattle.section_manager.proofs.buffers.NothingSealed.{nothing_sealed}
-use Rattle.section_manager.proofs.buffers.UnsealedCalls.{prefix_itself}
+use Rattle.meta_store.specs.lemmas.Uses.{IsReadable}
+use Rattle.paired.specs.lemmas.opening.Laws.{left_as_read}
+use Rattle.paired.specs.lemmas.opening.Phases.{IsCut, IsDropped, IsPhase, IsUnmarkedAt, cut_or_dropped_by}
+use Rattle.paired.specs.lemmas.pair.Blobs.{again}
+use Rattle.paired.specs.lemmas.reconcile.Phases.{has_markers, same_markers}
+use Rattle.paired.specs.lemmas.reconcile.Resting.{MarksRest, none_of, reads_there}
+use Rattle.section_manager.specs.lemmas.buffers.NothingSealed.{nothing_sealed}
+use Rattle.section_manager.specs.lemmas.buffers.UnsealedCalls.{prefix_itself}
 use Rattle.value_codec.specs.declared.key.Key8.{Key8}
-use Rattle.meta_store.proofs.Uses.{IsReadable}
 use Rattle.meta_store.specs.Store.{Store}
 use Rattle.paired.specs.Crashes.{IsIndexOf, NoChanceSeal}
 use Rattle.paired.specs.Kept.{Layout, Markers, IsMarked, marker_of, content_at, stored_records, is_sound_in}
@@ -27,12 +32,7 @@ use Rattle.paired.specs.Opening.{as_read, APrefix, MayBeOpened, RecallsBy}
 use Rattle.paired.specs.Pair.{AreApart}
 use Rattle.paired.specs.Records.{records, entry_of, unbroken_prefix}
 use Rattle.paired.proofs.opening.Ends.{prefix_order, cut_prefix}
-use Rattle.paired.proofs.opening.Laws.{left_as_read}
-use Rattle.paired.proofs.opening.Phases.{IsPhase, IsCut, IsDropped, IsUnmarkedAt, cut_or_dropped_by}
-use Rattle.paired.proofs.pair.Blobs.{again}
 use Rattle.paired.proofs.pair.Holding.{leaves_more}
-use Rattle.paired.proofs.reconcile.Phases.{has_markers, same_markers}
-use Rattle.paired.proofs.reconcile.Resting.{MarksRest, none_of, reads_there}
 use Rattle.paired.proofs.Steps.{Step}
 use Rattle.blob_device.proofs.general.Options.{none_or_value}
 

@@ -15,7 +15,11 @@ use Rattle.section_manager.specs.Sections.{Sections, section_key}
 use Rattle.section_manager.specs.Setting.{Setting}
 use Rattle.segments.specs.FixedLists.{Lists}
 use Rattle.value_codec.specs.declared.key.Key8.{Key8}
-use Rattle.meta_store.proofs.Uses.{IsReadable}
+use Rattle.meta_store.specs.lemmas.Uses.{IsReadable}
+use Rattle.paired.specs.lemmas.opening.Ends.{any_order}
+use Rattle.paired.specs.lemmas.opening.Phases.{IsPhase, none_marked, stored_by}
+use Rattle.paired.specs.lemmas.pair.Synced.{unmarked_zero}
+use Rattle.paired.specs.lemmas.reconcile.Resting.{Known, known_of, rests_no_chance}
 use Rattle.meta_store.specs.Pairs.{empty_map}
 use Rattle.meta_store.specs.Store.{Store, contents_of}
 use Rattle.paired.specs.Crashes.{IsIndexOf, IsValuesOf}
@@ -25,11 +29,7 @@ use Rattle.paired.specs.Pair.{AreApart}
 use Rattle.paired.specs.Records.{records}
 use Rattle.paired.proofs.CutSteps.{cuts_step}
 use Rattle.paired.proofs.Ends.{Between, Bounds, CutsTo}
-use Rattle.paired.proofs.opening.Ends.{any_order}
-use Rattle.paired.proofs.opening.Phases.{IsPhase, none_marked, stored_by}
 use Rattle.paired.proofs.reconcile.Phases.{index_left}
-use Rattle.paired.proofs.reconcile.Resting.{Known, known_of, rests_no_chance}
-use Rattle.paired.proofs.pair.Synced.{unmarked_zero}
 use Rattle.paired.proofs.Steps.{Step}
 
 -- Wherever records are cut, whatever is owed of a replay: the first records stay.

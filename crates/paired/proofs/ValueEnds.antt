@@ -13,7 +13,8 @@ use Rattle.blob_device.specs.lemmas.Moments.{always_start, always_weaker}
 use Rattle.sealed_pages.specs.declared.page_blob.PageBlob.{PageBlob}
 use Rattle.sealed_pages.specs.declared.write_blob.WriteBlob.{WriteBlob}
 use Rattle.sealed_pages.specs.Reading.{Unchanged}
-use Rattle.sealed_pages.proofs.looking.Looking.{unchanged_start}
+use Rattle.paired.specs.lemmas.Glob.{buffers}
+use Rattle.sealed_pages.specs.lemmas.looking.Looking.{unchanged_start}
 use Rattle.section_manager.specs.declared.buffer.SectionBuffer as buffer
 use Rattle.section_manager.specs.declared.journal.Error.{Error}
 use Rattle.section_manager.specs.Leaving.{Leaves}
@@ -30,7 +31,6 @@ use Rattle.paired.specs.Places.{last_end}
 use Rattle.paired.specs.Reconciling.{EndOf, IsCutOff, IsEndWithin}
 use Rattle.paired.specs.Records.{records}
 use Rattle.paired.proofs.FailLemmas.{failed_as}
-use Rattle.paired.proofs.GlobLemmas.{buffers}
 use Rattle.paired.proofs.pair.Stays.{journal_stays}
 use Rattle.paired.proofs.StepLemmas.{crash_keeps}
 use Rattle.blob_device.proofs.general.Options.{has_value, none_or_value, some_same, value_of}

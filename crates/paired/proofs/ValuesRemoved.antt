@@ -14,10 +14,10 @@ use Rattle.section_manager.specs.Leaving.{AllMoments}
 use Rattle.section_manager.specs.Sections.{Sections, key_of, IsHeld, IsSame, SameBounds, IsKeyOf}
 use Rattle.section_manager.specs.Setting.{Setting}
 use Rattle.section_manager.specs.lemmas.Keys.{keys_differ}
-use Rattle.section_manager.proofs.sections.OverLemmas.{same_key}
-use Rattle.section_manager.proofs.WalkLemmas.{same_bounds}
+use Rattle.paired.specs.lemmas.Glob.{buffers}
+use Rattle.section_manager.specs.lemmas.Walk.{same_bounds}
+use Rattle.section_manager.specs.lemmas.sections.Over.{same_key}
 use Rattle.paired.specs.glob.Sections.{IsGlob, section_bytes}
-use Rattle.paired.proofs.GlobLemmas.{buffers}
 use Rattle.blob_device.proofs.general.Lists.{contains_or_not, first_in, first_or_later, later_in}
 use Rattle.blob_device.proofs.general.Options.{none_or_value}
 

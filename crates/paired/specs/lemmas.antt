@@ -1,1 +1,13 @@
+pub mod Boundary
+pub mod Ends
+pub mod Frame
+pub mod GivenBack
+pub mod Glob
+pub mod Kept
+pub mod OpenParts
 pub mod Records
+pub mod Replay
+pub mod next
+pub mod opening
+pub mod pair
+pub mod reconcile

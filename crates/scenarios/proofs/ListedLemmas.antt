@@ -18,7 +18,7 @@ use Rattle.archives.specs.declared.commands.Command as asking
 use Rattle.archives.specs.declared.commands.Command.TheVariants as ask
 use Rattle.archive_service.specs.StoreCalls.{Answers, OpensStore}
 use Rattle.archive_service.specs.Stores.{PutsOnly}
-use Rattle.archive_service.proofs.StoreLemmas.{nothing_done, unchanged_always}
+use Rattle.archive_service.specs.lemmas.Store.{nothing_done, unchanged_always}
 use Rattle.scenarios.specs.ListedKind.{ListedState, ListedStep, listed_kind, listed_serving}
 use Rattle.scenarios.specs.declared.listed.Listed.{Listed}
 

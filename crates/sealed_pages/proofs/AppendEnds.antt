@@ -22,13 +22,15 @@ use Rattle.sealed_pages.specs.Writes.{Appends}
 use Rattle.sealed_pages.proofs.memory.CacheLemmas.{cached_none}
 use Rattle.sealed_pages.proofs.adopted.Clearing.{clears_start}
 use Rattle.sealed_pages.specs.lemmas.Entries.{no_reads_start, open_some}
-use Rattle.sealed_pages.proofs.memory.Holding.{holds_start, holds_more, holds_own, tip_stands, bytes_length}
+use Rattle.sealed_pages.proofs.memory.Holding.{holds_more, holds_own, tip_stands}
 use Rattle.sealed_pages.proofs.adopted.KnownLemmas.{known_flushed}
 use Rattle.sealed_pages.proofs.slots.PageCalls.{alone_start}
-use Rattle.sealed_pages.proofs.Syncing.{backed_more, bytes_longer, flushed_bytes}
+use Rattle.sealed_pages.proofs.Syncing.{flushed_bytes}
 use Rattle.sealed_pages.proofs.unsealed.Tails.{tail_kept, tail_flushed}
 use Rattle.sealed_pages.proofs.cutting.Truncating.{raised_cause}
-use Rattle.sealed_pages.proofs.UnrecoveredLemmas.{stood_keeps, more_stays}
+use Rattle.sealed_pages.specs.lemmas.Syncing.{backed_more, bytes_longer}
+use Rattle.sealed_pages.specs.lemmas.Unrecovered.{more_stays, stood_keeps}
+use Rattle.sealed_pages.specs.lemmas.memory.Holding.{bytes_length, holds_start}
 
 -- what the test of the room says, by the lengths
 pub over_of : (P at n size m : ℕ) (r : Bool) → at ≡ size → n ≡ m → IsTrue r ↔ extent P (at + n) < 2 ^ 64 → r ≡ false → 2 ^ 64 ≤ extent P (size + m)

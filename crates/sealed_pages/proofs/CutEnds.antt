@@ -23,14 +23,15 @@ use Rattle.sealed_pages.specs.Slots.{page_length}
 use Rattle.sealed_pages.specs.Unrecovered.{blob_of, prefix_of, SparesPrefix}
 use Rattle.sealed_pages.specs.View.{page_at, view, StandsAt}
 use Rattle.sealed_pages.proofs.cutting.Cuts.{resized_take}
-use Rattle.sealed_pages.proofs.cutting.Calls.{sealing_less}
+use Rattle.sealed_pages.specs.lemmas.cutting.Calls.{sealing_less}
+use Rattle.sealed_pages.specs.lemmas.cutting.Shortening.{cut_covers, shorter_at, shorter_within}
+use Rattle.sealed_pages.specs.lemmas.cutting.Steps.{settled_rest}
+use Rattle.sealed_pages.specs.lemmas.cutting.Truncating.{rose_since}
+use Rattle.sealed_pages.specs.lemmas.looking.Looking.{unchanged_now}
 use Rattle.sealed_pages.proofs.cutting.Entries.{few_then}
-use Rattle.sealed_pages.proofs.cutting.Steps.{settled_rest}
 use Rattle.sealed_pages.proofs.Prefixes.{prefix_look, prefix_then}
-use Rattle.sealed_pages.proofs.looking.Looking.{unchanged_now}
 use Rattle.sealed_pages.proofs.slots.PageCalls.{alone_start}
-use Rattle.sealed_pages.proofs.cutting.Shortening.{shorter_at, shorter_within, cut_covers}
-use Rattle.sealed_pages.proofs.cutting.Truncating.{as_of, at_ready, holds_cut, stands_none, resized_data, cut_bytes, cut_backed, raised_cause, rose_since, look_sealing, look_then, look_alone, within_ready, within_stands, head_stands, page_cut_data}
+use Rattle.sealed_pages.proofs.cutting.Truncating.{as_of, at_ready, holds_cut, stands_none, resized_data, cut_bytes, cut_backed, raised_cause, look_sealing, look_then, look_alone, within_ready, within_stands, head_stands, page_cut_data}
 use Rattle.sealed_pages.proofs.cutting.TruncateEnds.{no_page}
 use Rattle.blob_device.proofs.general.Numbers.{times_next}
 

@@ -16,13 +16,17 @@ use Rattle.sealed_pages.specs.View.{view, page_at, StandsAt}
 use Rattle.sealed_pages.proofs.memory.CacheLemmas.{cached_none, cached_by}
 use Rattle.sealed_pages.proofs.adopted.Clearing.{clears_start, clears_then}
 use Rattle.sealed_pages.specs.lemmas.Entries.{no_reads_start, no_reads_then, open_some}
-use Rattle.sealed_pages.proofs.Prefixes.{prefix_start, prefix_then, prefix_now}
-use Rattle.sealed_pages.proofs.memory.Holding.{holds_start, tip_stands, bytes_length}
+use Rattle.sealed_pages.proofs.Prefixes.{prefix_then}
+use Rattle.sealed_pages.proofs.memory.Holding.{tip_stands}
 use Rattle.sealed_pages.proofs.memory.MemoryLemmas.{memory_flushed}
-use Rattle.sealed_pages.proofs.slots.PageCalls.{alone_start, alone_then}
+use Rattle.sealed_pages.proofs.slots.PageCalls.{alone_start}
 use Rattle.sealed_pages.proofs.Syncing.{flush_told}
-use Rattle.sealed_pages.proofs.cutting.Truncating.{rose_since}
-use Rattle.sealed_pages.proofs.UnrecoveredLemmas.{stood_keeps, spared_keeps, spared_stays, first_later}
+use Rattle.sealed_pages.specs.lemmas.Prefixes.{prefix_now, prefix_start}
+use Rattle.sealed_pages.specs.lemmas.Unrecovered.{spared_keeps, spared_stays, stood_keeps}
+use Rattle.sealed_pages.specs.lemmas.cutting.Truncating.{rose_since}
+use Rattle.sealed_pages.specs.lemmas.memory.Holding.{bytes_length, holds_start}
+use Rattle.sealed_pages.specs.lemmas.slots.PageCalls.{alone_then}
+use Rattle.sealed_pages.proofs.UnrecoveredLemmas.{first_later}
 
 module _ {D : Type 0} (dev : device.Ghosts D) (seal : List ℕ → ℕ) {B : Type 0} (see : B → Buffer) where
   -- all is flushed

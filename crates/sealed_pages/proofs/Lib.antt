@@ -5,9 +5,7 @@ pub mod CutEnds
 pub mod AppendEnds
 pub mod AdoptEnds
 pub mod FlushEnds
-pub mod HadLemmas
 pub mod Syncing
-pub mod Reaching
 pub mod cutting
 pub mod WriteLemmas
 pub mod PlainLemmas

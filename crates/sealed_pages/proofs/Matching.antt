@@ -3,8 +3,9 @@ use Rattle.std.proofs.Common.{◌≡◌, ◌≢◌, ◌+◌, ◌<◌, ◌^◌, �
 use Rattle.std.specs.Int.{w16, w32, from_be_bytes}
 use Rattle.sealed_pages.specs.View.{view, bytes_at, page_at, slot_at}
 use Rattle.sealed_pages.specs.Slots.{named_length, named_seal, computed_seal, slot_length}
-use Rattle.sealed_pages.proofs.looking.Looking.{page_zero, slot_short, slot_long, slot_right, slot_wrong, two_at, four_at, prefix_at}
-use Rattle.sealed_pages.proofs.slots.Steps.{slot_low}
+use Rattle.sealed_pages.proofs.looking.Looking.{two_at, four_at, prefix_at}
+use Rattle.sealed_pages.specs.lemmas.looking.Looking.{page_zero, slot_long, slot_right, slot_short, slot_wrong}
+use Rattle.sealed_pages.specs.lemmas.slots.Steps.{slot_low}
 
 module _ (seal : List ℕ → ℕ) (P : ℕ) (page : List ℕ) (b : Bool) (at : ℕ) (is : at ≡ slot_at P 0 b) where
   -- it does not stand whole in the page

@@ -17,9 +17,10 @@ use Rattle.sealed_pages.specs.Reads.{IsCovered, IsShort, IsTailShort}
 use Rattle.sealed_pages.specs.SealedPrefix.{adopted_size, data_from, place}
 use Rattle.sealed_pages.specs.View.{view}
 use Rattle.sealed_pages.specs.lemmas.Entries.{only_read_then, only_read_of}
-use Rattle.sealed_pages.proofs.looking.Looking.{unchanged_now, unchanged_then}
+use Rattle.sealed_pages.specs.lemmas.looking.Looking.{unchanged_now, unchanged_then}
+use Rattle.sealed_pages.specs.lemmas.looking.Read.{read_data}
 use Rattle.sealed_pages.proofs.memory.MemoryLemmas.{none_cached}
-use Rattle.sealed_pages.proofs.looking.ReadLemmas.{read_data, same_error}
+use Rattle.sealed_pages.proofs.looking.ReadLemmas.{same_error}
 use Rattle.sealed_pages.proofs.adopted.Reopen.{settles_then, stays_then}
 use Rattle.sealed_pages.proofs.cutting.TruncateEnds.{no_page}
 use Rattle.sealed_pages.proofs.cutting.Truncating.{no_value}

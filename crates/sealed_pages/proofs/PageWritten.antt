@@ -17,11 +17,13 @@ use Rattle.sealed_pages.specs.View.{page_at, slot_at, StandsAt}
 use Rattle.sealed_pages.proofs.adopted.Clearing.{settles_start, settles_write}
 use Rattle.sealed_pages.proofs.slots.CoverLemmas.{page_covers}
 use Rattle.sealed_pages.specs.lemmas.Entries.{no_reads_then, no_reads_open}
-use Rattle.sealed_pages.proofs.Prefixes.{prefix_start, prefix_write}
-use Rattle.sealed_pages.proofs.HadLemmas.{had_write}
-use Rattle.sealed_pages.proofs.slots.PageCalls.{Begun, page_one, page_two, page_ready, page_leaves, alone_start, alone_on, page_wrote}
-use Rattle.sealed_pages.proofs.slots.Steps.{slot_low}
-use Rattle.sealed_pages.proofs.cutting.Truncating.{rose_since}
+use Rattle.sealed_pages.proofs.Prefixes.{prefix_write}
+use Rattle.sealed_pages.specs.lemmas.Had.{had_write}
+use Rattle.sealed_pages.specs.lemmas.Prefixes.{prefix_start}
+use Rattle.sealed_pages.specs.lemmas.cutting.Truncating.{rose_since}
+use Rattle.sealed_pages.specs.lemmas.slots.PageCalls.{Begun, page_leaves, page_one, page_ready, page_two}
+use Rattle.sealed_pages.specs.lemmas.slots.Steps.{slot_low}
+use Rattle.sealed_pages.proofs.slots.PageCalls.{alone_start, alone_on, page_wrote}
 
 module _ {D : Type 0} (dev : device.Ghosts D) (seal : List ℕ → ℕ) (P : ℕ) (blob : Key) (page from : ℕ) (bytes : List ℕ) (second : Bool) (fits : (x : List ℕ) → seal x < 2 ^ 32) (small : P < 2 ^ 16)
     (new : from < length bytes) (size : length bytes ≤ P) (room : page_at P page + (P + 12) < 2 ^ 64) (old mid : D) where

@@ -15,9 +15,11 @@ use Rattle.sealed_pages.specs.View.{view, page_at, StandsAt}
 use Rattle.sealed_pages.proofs.adopted.Clearing.{settles_start, settles_then}
 use Rattle.sealed_pages.proofs.slots.CoverLemmas.{covers_next}
 use Rattle.sealed_pages.specs.lemmas.Entries.{open_some, no_reads_start, no_reads_then}
-use Rattle.sealed_pages.proofs.Prefixes.{prefix_start, prefix_now, prefix_page, prefix_then}
-use Rattle.sealed_pages.proofs.slots.PageCalls.{flushed_as, wrote_as, alone_then, wrote_start, wrote_then, flush_start, flush_then, part_stands}
-use Rattle.sealed_pages.proofs.cutting.Truncating.{rose_since}
+use Rattle.sealed_pages.proofs.Prefixes.{prefix_page, prefix_then}
+use Rattle.sealed_pages.proofs.slots.PageCalls.{flushed_as, wrote_as, wrote_start, wrote_then, flush_start, flush_then, part_stands}
+use Rattle.sealed_pages.specs.lemmas.Prefixes.{prefix_now, prefix_start}
+use Rattle.sealed_pages.specs.lemmas.cutting.Truncating.{rose_since}
+use Rattle.sealed_pages.specs.lemmas.slots.PageCalls.{alone_then}
 
 module _ {D : Type 0} (dev : device.Ghosts D) (seal : List ℕ → ℕ) (P : ℕ) (blob : Key) (first begin : ℕ) (tip : List ℕ) (settled : ℕ) (newest : Bool) (old : D) where
   -- so many bytes of the tip are written, and `from` of the page that is next

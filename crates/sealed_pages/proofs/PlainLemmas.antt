@@ -6,8 +6,9 @@ use Rattle.std.specs.Int.{w16, w32, from_be_bytes}
 use Rattle.sealed_pages.specs.SealedPrefix.{pages_in, sealed_from, sealed_prefix}
 use Rattle.sealed_pages.specs.Slots.{page_length, named_length, named_seal, computed_seal}
 use Rattle.sealed_pages.specs.View.{view, bytes_at, page_at, slot_at}
-use Rattle.sealed_pages.proofs.looking.Looking.{two_at, four_at, page_below, page_length_is, page_reaches}
-use Rattle.sealed_pages.proofs.slots.SlotLemmas.{slot_length-le, length-bytes_at, get_or-bytes_at}
+use Rattle.sealed_pages.proofs.looking.Looking.{two_at, four_at, page_below, page_reaches}
+use Rattle.sealed_pages.specs.lemmas.looking.Looking.{page_length_is}
+use Rattle.sealed_pages.specs.lemmas.slots.Slot.{get_or-bytes_at, length-bytes_at, slot_length-le}
 
 pub page_place : (P k : ℕ) → k * (P + 12) ≡ page_at P k
 unfolding page_at

@@ -16,15 +16,18 @@ use Rattle.sealed_pages.specs.Leftover.{OnlySlot, IsCleared}
 use Rattle.sealed_pages.specs.Removals.{CutsBehind, ClearsTorn, Removes}
 use Rattle.sealed_pages.specs.Unrecovered.{SparesPrefix}
 use Rattle.sealed_pages.specs.View.{view, page_at, slot_at}
-use Rattle.sealed_pages.proofs.adopted.Adopting.{adopted_kept, torn_inside, torn_other, head_is, all_clean, pages_reach, pages_some, last_page}
+use Rattle.sealed_pages.proofs.adopted.Adopting.{pages_reach}
 use Rattle.sealed_pages.proofs.adopted.Clearing.{slot_clears, slot_then, slot_settle, both_cleared}
 use Rattle.sealed_pages.specs.lemmas.Entries.{no_reads_then, no_reads_same, no_reads_open, open_same}
-use Rattle.sealed_pages.proofs.Prefixes.{prefix_page, prefix_then, prefix_settle}
+use Rattle.sealed_pages.proofs.Prefixes.{prefix_page, prefix_then}
 use Rattle.sealed_pages.proofs.adopted.Keeping.{settle_any, settle_ready, settle_data}
-use Rattle.sealed_pages.proofs.slots.PageCalls.{only_then, alone_on, alone_then}
-use Rattle.sealed_pages.proofs.cutting.Truncating.{rose_since}
+use Rattle.sealed_pages.proofs.slots.PageCalls.{alone_on}
+use Rattle.sealed_pages.specs.lemmas.Prefixes.{prefix_settle}
+use Rattle.sealed_pages.specs.lemmas.adopted.Adopting.{adopted_kept, all_clean, head_is, last_page, pages_some, torn_inside, torn_other}
+use Rattle.sealed_pages.specs.lemmas.cutting.Steps.{settled_rest}
+use Rattle.sealed_pages.specs.lemmas.cutting.Truncating.{rose_since}
+use Rattle.sealed_pages.specs.lemmas.slots.PageCalls.{alone_then, only_then}
 use Rattle.sealed_pages.proofs.UnrecoveredLemmas.{pages_span}
-use Rattle.sealed_pages.proofs.cutting.Steps.{settled_rest}
 
 -- what the steps promise, by other names
 pub behind_as : {D : Type 0} {dev : device.Ghosts D} {seal : List ℕ → ℕ} {P : ℕ} {blob : Key} {old new : D} {n m : ℕ} {behind : Bool} {r : Result ℕ DevError} → n ≡ m → CutsBehind dev seal P blob old new n behind r → CutsBehind dev seal P blob old new m behind r

@@ -14,9 +14,10 @@ use Rattle.sealed_pages.specs.Unrecovered.{blob_of}
 use Rattle.sealed_pages.specs.View.{page_at}
 use Rattle.sealed_pages.proofs.adopted.Clearing.{clears_start, rest_cleared}
 use Rattle.sealed_pages.specs.lemmas.Entries.{no_reads_start, open_some}
-use Rattle.sealed_pages.proofs.Prefixes.{prefix_start}
-use Rattle.sealed_pages.proofs.HadLemmas.{had_rest}
-use Rattle.sealed_pages.proofs.memory.Holding.{holds_start, state_clean}
+use Rattle.sealed_pages.specs.lemmas.Had.{had_rest}
+use Rattle.sealed_pages.specs.lemmas.Prefixes.{prefix_start}
+use Rattle.sealed_pages.specs.lemmas.memory.Holding.{holds_start}
+use Rattle.sealed_pages.proofs.memory.Holding.{state_clean}
 use Rattle.sealed_pages.proofs.slots.PageCalls.{alone_start}
 use Rattle.sealed_pages.proofs.cutting.Truncating.{as_of}
 

@@ -15,13 +15,14 @@ use Rattle.sealed_pages.specs.Readers.{Reader, IsTipOf}
 use Rattle.sealed_pages.specs.Reads.{IsCovered}
 use Rattle.sealed_pages.specs.Replays.{Begins, Replays}
 use Rattle.sealed_pages.specs.Unrecovered.{blob_of}
-use Rattle.sealed_pages.proofs.memory.Holding.{holds_own, tip_stands, bytes_length}
+use Rattle.sealed_pages.proofs.memory.Holding.{holds_own, tip_stands}
 use Rattle.sealed_pages.proofs.adopted.KnownLemmas.{known_flushed}
 use Rattle.sealed_pages.proofs.memory.MemoryLemmas.{tip_backed}
-use Rattle.sealed_pages.proofs.looking.ReplayLemmas.{data_all}
+use Rattle.sealed_pages.specs.lemmas.looking.Replay.{data_all}
+use Rattle.sealed_pages.specs.lemmas.memory.Holding.{bytes_length}
+use Rattle.sealed_pages.specs.lemmas.slots.Whole.{whole_covered}
 use Rattle.sealed_pages.proofs.Syncing.{flushed_bytes}
 use Rattle.sealed_pages.proofs.cutting.Truncating.{no_value}
-use Rattle.sealed_pages.proofs.slots.WholeLemmas.{whole_covered}
 
 module _ {D B Q : Type 0} (dev : device.Ghosts D) (seal : List ℕ → ℕ) (u : Buffer) (old new : D) (see : B → Buffer) (reads : Q → Reader) where
   -- none does

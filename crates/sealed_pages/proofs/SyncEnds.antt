@@ -26,15 +26,18 @@ use Rattle.sealed_pages.specs.Writes.{Syncs}
 use Rattle.sealed_pages.proofs.memory.CacheLemmas.{cached_none}
 use Rattle.sealed_pages.proofs.adopted.Clearing.{clears_start, clears_settle}
 use Rattle.sealed_pages.specs.lemmas.Entries.{no_reads_start, open_some}
-use Rattle.sealed_pages.proofs.Prefixes.{prefix_start, prefix_settle}
-use Rattle.sealed_pages.proofs.memory.Holding.{holds_start, holds_own, tip_stands, bytes_length}
+use Rattle.sealed_pages.specs.lemmas.Prefixes.{prefix_settle, prefix_start}
+use Rattle.sealed_pages.specs.lemmas.Unrecovered.{keeps_then, settled_keeps, settled_stays, stood_keeps}
+use Rattle.sealed_pages.specs.lemmas.cutting.Steps.{settled_rest}
+use Rattle.sealed_pages.specs.lemmas.cutting.Truncating.{all_flushed, settles_of}
+use Rattle.sealed_pages.specs.lemmas.memory.Holding.{bytes_length, holds_start}
+use Rattle.sealed_pages.specs.lemmas.slots.PageCalls.{only_then}
+use Rattle.sealed_pages.proofs.memory.Holding.{holds_own, tip_stands}
 use Rattle.sealed_pages.proofs.adopted.Keeping.{settle_data}
 use Rattle.sealed_pages.proofs.adopted.KnownLemmas.{known_synced}
-use Rattle.sealed_pages.proofs.slots.PageCalls.{only_then, alone_on, alone_start}
+use Rattle.sealed_pages.proofs.slots.PageCalls.{alone_on, alone_start}
 use Rattle.sealed_pages.proofs.Syncing.{holds_settle, holds_synced, flushed_bytes}
-use Rattle.sealed_pages.proofs.cutting.Truncating.{all_flushed, settles_of, leaves_of, raised_cause}
-use Rattle.sealed_pages.proofs.UnrecoveredLemmas.{stood_keeps, keeps_then, settled_keeps, settled_stays}
-use Rattle.sealed_pages.proofs.cutting.Steps.{settled_rest}
+use Rattle.sealed_pages.proofs.cutting.Truncating.{leaves_of, raised_cause}
 
 module _ {D : Type 0} (dev : device.Ghosts D) (seal : List ℕ → ℕ) {B : Type 0} (see : B → Buffer) where
   -- all has settled

@@ -1,31 +1,24 @@
 -- A buffer over its calls: a flush in two steps, bytes added, and a sync.
-use Rattle.std.proofs.Common.{◌≡◌, ◌≢◌, inl, inr, ℕ, Ok, ◌+◌, ◌*◌, ◌<◌, ◌≤◌, ◌||◌, not, eqb, Result, Bool, true, false, List, ◌++◌, length, sym, ◌∙◌, ap, subst, arith, append_assoc}
+use Rattle.std.proofs.Common.{◌≡◌, ◌≢◌, inl, inr, ℕ, Ok, ◌+◌, ◌*◌, ◌<◌, ◌≤◌, ◌||◌, not, eqb, Result, Bool, true, false, List, length, sym, ◌∙◌, ap, subst, arith}
 use Rattle.std.proofs.lemmas.Bool.{cases_Bool, eq-eqb}
 use Rattle.blob_device.specs.declared.error.DevError.{DevError}
 use Rattle.blob_device.specs.Timeline.{Timeline, disk, Passes}
 use Rattle.blob_device.specs.Change.{Settle}
 use Rattle.blob_device.specs.Disk.{Key}
-use Rattle.sealed_pages.proofs.adopted.Adopting.{end_page, adopted_kept}
+use Rattle.sealed_pages.specs.lemmas.adopted.Adopting.{adopted_kept, end_page}
+use Rattle.sealed_pages.specs.lemmas.slots.PageCalls.{only_then}
 use Rattle.sealed_pages.proofs.adopted.Keeping.{settle_any}
-use Rattle.sealed_pages.proofs.memory.Holding.{bytes_is, bytes_length, data_less}
-use Rattle.sealed_pages.proofs.slots.PageCalls.{only_then, synced_any, synced_ok, data_more}
+use Rattle.sealed_pages.proofs.memory.Holding.{bytes_is, data_less}
+use Rattle.sealed_pages.proofs.slots.PageCalls.{synced_any, synced_ok}
 use Rattle.sealed_pages.specs.Buffer.{Buffer, key_of, size_of, flushed_of, bytes_of, Holds, HasFlushed}
 use Rattle.sealed_pages.specs.ChanceSeal.{Leaves, Sealing}
 use Rattle.sealed_pages.specs.Flushing.{last_slot, Data, Ready}
-use Rattle.sealed_pages.specs.SealedPrefix.{data_from}
 use Rattle.sealed_pages.specs.View.{view, StandsAt}
 
 pub flush_told : (seal : List ℕ → ℕ) (u v : Buffer) (n : ℕ) (all : List ℕ) (t0 t1 t2 : Timeline) → v ≡ record u { end = n; behind = false; torn = false } → Sealing seal u.page_size all u.settled (key_of u) t0 t1
     → Holds seal v all (disk t1 (key_of u)) → ((l : List ℕ) → Holds seal v l (disk t1 (key_of v)) → Sealing seal v.page_size l v.settled (key_of v) t1 t2) → Sealing seal u.page_size all u.settled (key_of u) t0 t2
 flush_told seal u v n all t0 t1 t2 is first = subst (λ (x : Buffer). Holds seal x all (disk t1 (key_of u)) → ((l : List ℕ) → Holds seal x l (disk t1 (key_of x)) → Sealing seal x.page_size l x.settled (key_of x) t1 t2) → Sealing seal u.page_size all u.settled (key_of u) t0 t2) (sym is)
     (λ holds told. only_then t0 t1 t2 (key_of u) (Leaves seal u.page_size all u.settled) first (told all holds))
-
-pub bytes_longer : (u : Buffer) (more c : List ℕ) → bytes_of (record u { tip = u.tip ++ more }) c ≡ bytes_of u c ++ more
-bytes_longer u more c = sym (append_assoc (data_from u.page_size (view c) 0 (u.first * u.page_size)) u.tip more)
-
-pub backed_more : (u v : Buffer) (more c : List ℕ) → v ≡ record u { tip = u.tip ++ more } → u.from ≤ length u.tip → HasFlushed u c → HasFlushed v c
-backed_more u v more c is within backed = subst (λ (x : Buffer). HasFlushed x c) (sym is)
-    (subst (λ (l : List ℕ). Data u.page_size l (flushed_of u) (view c)) (sym (bytes_longer u more c)) (data_more (λ x. 0) u.page_size (bytes_of u c) more (flushed_of u) (view c) (omega (arith, bytes_length u c, within)) backed))
 
 -- once all bytes are flushed
 pub flushed_bytes : (r : Buffer) (P n : ℕ) (all content : List ℕ) → 0 < r.page_size → r.page_size ≡ P → size_of r ≡ n → Data P all n (view content) → StandsAt all (r.first * r.page_size) r.tip → length all ≡ n → bytes_of r content ≡ all

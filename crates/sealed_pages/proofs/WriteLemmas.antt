@@ -13,11 +13,6 @@ written_inside c at bytes i low high =
     let e : i ≡ at + (i - at) = omega (arith, low) in
     ap (λ (j : ℕ). get_or (written c at bytes) j 0) e ∙ written_in c at bytes (i - at) (omega (arith, low, high))
 
--- no bytes within a content change nothing
-pub written_nothing : (c : List ℕ) (at : ℕ) → at ≤ length c → written c at [] ≡ c
-written_nothing c at within = ext_get_or 0 (written c at []) c (omega (arith, length-written c at [], within))
-    (λ i lt. elim (cases_lt i at) [ inl below ↦ written_out c at [] i (inl below) | inr past ↦ written_out c at [] i (inr (omega (arith, past))) ])
-
 -- a write that begins in the one before or at its end goes into it
 pub written_again : (c : List ℕ) (at : ℕ) (run : List ℕ) (offset : ℕ) (bytes : List ℕ) → at ≤ offset → offset ≤ at + length run
     → written c at (written run (offset - at) bytes) ≡ written (written c at run) offset bytes

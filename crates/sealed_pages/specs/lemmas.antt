@@ -1,1 +1,13 @@
 pub mod Entries
+pub mod Had
+pub mod Prefixes
+pub mod Reaching
+pub mod Syncing
+pub mod Unrecovered
+pub mod Write
+pub mod adopted
+pub mod cutting
+pub mod looking
+pub mod memory
+pub mod slots
+pub mod unsealed

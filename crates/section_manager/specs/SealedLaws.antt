@@ -15,12 +15,12 @@ use Rattle.sealed_pages.specs.SealedPrefix.{sealed_prefix, adopted_size, data_fr
 use Rattle.sealed_pages.specs.Slots.{slot_length}
 use Rattle.sealed_pages.specs.Unrecovered.{IsUnrecovered}
 use Rattle.sealed_pages.specs.View.{View, view}
-use Rattle.sealed_pages.proofs.adopted.Adopt.{length-data_from, get_or-data_from}
-use Rattle.sealed_pages.proofs.memory.Holding.{holds_leaves}
-use Rattle.sealed_pages.proofs.slots.SlotLemmas.{slot_stands}
-use Rattle.sealed_pages.proofs.cutting.Truncating.{all_flushed, settles_of}
-use Rattle.sealed_pages.proofs.UnrecoveredLemmas.{prefix_leaves, unrecovered_prefix}
-use Rattle.sealed_pages.proofs.slots.WholeLemmas.{whole_covered}
+use Rattle.sealed_pages.specs.lemmas.Unrecovered.{prefix_leaves, unrecovered_prefix}
+use Rattle.sealed_pages.specs.lemmas.adopted.Adopt.{get_or-data_from, length-data_from}
+use Rattle.sealed_pages.specs.lemmas.cutting.Truncating.{all_flushed, settles_of}
+use Rattle.sealed_pages.specs.lemmas.memory.Holding.{holds_leaves}
+use Rattle.sealed_pages.specs.lemmas.slots.Slot.{slot_stands}
+use Rattle.sealed_pages.specs.lemmas.slots.Whole.{whole_covered}
 use Rattle.section_manager.specs.Leaving.{Leaves}
 use Rattle.section_manager.specs.Sealed.{is_unsettled, adopted_bytes, Stands, MayKeep}
 use Rattle.blob_device.proofs.general.Numbers.{times_more}

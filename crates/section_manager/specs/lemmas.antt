@@ -1,2 +1,6 @@
+pub mod Init
 pub mod Keys
 pub mod Seen
+pub mod Walk
+pub mod buffers
+pub mod sections

@@ -1,2 +1,6 @@
 pub mod FixedErrors
 pub mod FixedOwed
+pub mod adding
+pub mod cutting
+pub mod held
+pub mod replay

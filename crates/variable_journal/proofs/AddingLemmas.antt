@@ -19,9 +19,9 @@ use Rattle.section_manager.specs.lemmas.Seen.{err_same, failed_again}
 use Rattle.segments.specs.FixedAdding as bytes
 use Rattle.segments.specs.FixedAdding.{WouldOverfill}
 use Rattle.segments.specs.FixedLists.{Lists, section_bytes, IsRecovered}
-use Rattle.segments.proofs.adding.Adding.{along_nothing}
-use Rattle.segments.proofs.held.Passing.{no_error}
-use Rattle.segments.proofs.adding.WriteLemmas.{ArePages}
+use Rattle.segments.specs.lemmas.adding.Adding.{along_nothing}
+use Rattle.segments.specs.lemmas.adding.Write.{ArePages}
+use Rattle.segments.specs.lemmas.held.Passing.{no_error}
 use Rattle.variable_journal.specs.Adding.{Appends}
 use Rattle.variable_journal.specs.Frames.{frame, items_of, rest_of}
 use Rattle.variable_journal.specs.Lists.{AreFramed, IsJournal}

@@ -12,14 +12,14 @@ use Rattle.sealed_pages.specs.Reading.{OnlyRead}
 use Rattle.sealed_pages.specs.Reads.{IsShort}
 use Rattle.sealed_pages.specs.Shown.{shown}
 use Rattle.sealed_pages.specs.declared.page_blob.PageBlob.{PageBlob}
-use Rattle.sealed_pages.proofs.looking.Looking.{unchanged_start}
+use Rattle.sealed_pages.specs.lemmas.looking.Looking.{unchanged_start}
+use Rattle.segments.specs.lemmas.held.Sections.{bytes_own, own_here, size_here}
 use Rattle.section_manager.specs.Refusing.{HasFailed, IsPruned}
 use Rattle.section_manager.specs.Sections.{key_of}
 use Rattle.section_manager.specs.declared.journal.Error.{Error}
 use Rattle.section_manager.specs.declared.journal.Error.TheVariants.{AlreadyPrunedToSection, Codec, Runtime, SectionOutOfRange}
 use Rattle.segments.specs.FixedLists.{Lists, section_bytes}
 use Rattle.segments.specs.FixedReading.{IsAbsent, IsPast}
-use Rattle.segments.proofs.held.Sections.{bytes_own, own_here, size_here}
 use Rattle.variable_journal.specs.Reading.{FrameOf, Gets, IsPastLast, IsRefusedBy, Reads}
 
 module _ {F S V C D : Type 0} {gs : _} (seal : List ℕ → ℕ) (spelling : V → List ℕ) (accepted : V → C → Type 0) (refusal : List ℕ → C → Option codec.Error)

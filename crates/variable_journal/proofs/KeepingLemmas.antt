@@ -7,7 +7,7 @@ use Rattle.sealed_pages.specs.declared.page_blob.PageBlob.{PageBlob}
 use Rattle.section_manager.specs.Setting.{Setting}
 use Rattle.section_manager.specs.declared.buffer.SectionBuffer as buffer
 use Rattle.segments.specs.FixedLists.{Lists}
-use Rattle.segments.proofs.held.Sections as bytes
+use Rattle.segments.specs.lemmas.held.Sections as bytes
 use Rattle.variable_journal.specs.Lists.{AreFramed, IsJournal}
 
 -- it may still be used

@@ -4,7 +4,7 @@ use Rattle.std.proofs.lemmas.List.{append-nil, drop-drop, take-append-le}
 use Rattle.value_codec.specs.Varint.{varint, BeginsWithVarint, IsVarint, IsWhyNone, ReadsBack}
 use Rattle.value_codec.specs.declared.codec.Error as codec
 use Rattle.value_codec.specs.declared.codec.Error.TheVariants.{InvalidVarint}
-use Rattle.value_codec.proofs.VarintLemmas.{varint_apart, varint_only}
+use Rattle.value_codec.specs.lemmas.Varint.{varint_apart, varint_only}
 use Rattle.section_manager.specs.Raised.{raised_codec}
 use Rattle.variable_journal.specs.Frames.{frame, BeginsWithFrame, HasBadLength}
 use Rattle.variable_journal.specs.Reading.{IsPastLast, Measures}

@@ -7,7 +7,7 @@ use Rattle.blob_device.specs.declared.device.Device as device
 use Rattle.sealed_pages.specs.declared.page_blob.PageBlob.{PageBlob}
 use Rattle.sealed_pages.specs.declared.pages.Pages.{Pages}
 use Rattle.sealed_pages.specs.Shown.{shown}
-use Rattle.sealed_pages.proofs.memory.Holding.{bytes_length}
+use Rattle.sealed_pages.specs.lemmas.memory.Holding.{bytes_length}
 use Rattle.section_manager.specs.Sections.{key_of}
 use Rattle.section_manager.specs.Setting.{Setting}
 use Rattle.section_manager.specs.declared.buffer.SectionBuffer as buffer

@@ -17,7 +17,7 @@ use Rattle.sealed_pages.specs.Reading.{OnlyRead, Unchanged}
 use Rattle.sealed_pages.specs.Reads.{IsShort}
 use Rattle.sealed_pages.specs.Shown.{shown}
 use Rattle.sealed_pages.specs.declared.page_blob.PageBlob.{PageBlob}
-use Rattle.sealed_pages.proofs.memory.Holding.{bytes_length}
+use Rattle.sealed_pages.specs.lemmas.memory.Holding.{bytes_length}
 use Rattle.section_manager.specs.Raised.{raised, raised_codec}
 use Rattle.section_manager.specs.declared.journal.Error.{Error}
 use Rattle.section_manager.specs.declared.journal.Error.TheVariants.{Codec, ItemOutOfRange, Mem, Runtime}

@@ -1,6 +1,6 @@
 use Rattle.std.proofs.Common.{subst, sym}
 use Rattle.archive_program.specs.WordsSeen.{IsStatusFor}
-use Rattle.archive_program.proofs.WordsLemmas.{no_memory_in, status_in}
+use Rattle.archive_program.specs.lemmas.Words.{no_memory_in, status_in}
 use Rattle.archive_cli.proofs.run_in.Goals as goal
 
 pub returns-in_default : goal.returns-in_default

@@ -1,4 +1,4 @@
-use Rattle.archive_program.proofs.WordsLemmas.{status_in}
+use Rattle.archive_program.specs.lemmas.Words.{status_in}
 use Rattle.archive_cli.proofs.served.Goals as goal
 
 pub returns-in-None : goal.returns-in-None

@@ -15,8 +15,8 @@ use Rattle.paired.specs.OpeningRefusing.{IsSomeRefused}
 use Rattle.paired.specs.Records as stored
 use Rattle.paired.specs.Records.{unbroken_prefix}
 use Rattle.paired.specs.Replaying.{Run, is_sound_over, marker, records_given, records_over}
-use Rattle.paired.proofs.KeptLemmas.{stored_entries}
-use Rattle.paired.proofs.opening.Ends.{marked_is, marked_or_zero}
+use Rattle.paired.specs.lemmas.Kept.{stored_entries}
+use Rattle.paired.specs.lemmas.opening.Ends.{marked_is, marked_or_zero}
 use Rattle.paired.specs.lemmas.Records.{prefix-take}
 use Rattle.archives.specs.Filing.{Filing, kept_entries}
 use Rattle.archives.specs.IndexRecord.{index_of}

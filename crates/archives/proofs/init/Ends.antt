@@ -11,17 +11,17 @@ use Rattle.section_manager.specs.Sections.{key_of}
 use Rattle.section_manager.specs.Setting.{Setting}
 use Rattle.segments.specs.FixedLists.{Lists}
 use Rattle.segments.specs.FixedReplay.{IsDrained, kept_of}
-use Rattle.segments.proofs.replay.Beginning.{finished_sealed}
-use Rattle.meta_store.proofs.Uses.{IsReadable}
+use Rattle.meta_store.specs.lemmas.Uses.{IsReadable}
+use Rattle.paired.specs.lemmas.opening.Ends.{marked_or_zero}
+use Rattle.paired.specs.lemmas.reconcile.Resting.{none_of}
+use Rattle.paired.specs.lemmas.reconcile.Start.{Drained, GaveBack, kept_stored, opening, walk_unfailed}
+use Rattle.segments.specs.lemmas.replay.Beginning.{finished_sealed}
 use Rattle.meta_store.specs.Store.{contents_of}
 use Rattle.paired.specs.Kept.{kept, marker_of}
 use Rattle.paired.specs.Opening.{as_read}
 use Rattle.paired.specs.OpeningFound.{HasFound}
 use Rattle.paired.specs.Records.{unbroken_prefix, records}
 use Rattle.paired.specs.Replaying.{HasFailed, Run, is_sound_over, marker, records_given, records_over}
-use Rattle.paired.proofs.opening.Ends.{marked_or_zero}
-use Rattle.paired.proofs.reconcile.Resting.{none_of}
-use Rattle.paired.proofs.reconcile.Start.{Drained, GaveBack, kept_stored, opening, walk_unfailed}
 use Rattle.archives.specs.Filing.{Filing, kept_entries}
 use Rattle.archives.proofs.init.State.{marker_is, since_start}
 use Rattle.blob_device.proofs.general.Options.{none_or_value, some_there}

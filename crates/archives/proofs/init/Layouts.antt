@@ -6,7 +6,7 @@ use Rattle.value_codec.specs.declared.codec.Error as codec
 use Rattle.value_codec.specs.declared.seal.Seal as seal
 use Rattle.paired.specs.ReplayShown.{layout_for}
 use Rattle.paired.specs.declared.oversized.opening.Config.{Config}
-use Rattle.paired.proofs.pair.Synced.{layout_as}
+use Rattle.paired.specs.lemmas.pair.Synced.{layout_as}
 use Rattle.archives.specs.IndexRecord.{place_of}
 use Rattle.archives.specs.Shown.{filing_for}
 use Rattle.archives.specs.declared.prunable.config.Config as archive

@@ -4,13 +4,21 @@ use Rattle.std.specs.List.{AllByRecursion}
 use Rattle.std.proofs.lemmas.List.{nil_from_length, take_all}
 use Rattle.blob_device.specs.Disk.{Disk, Key, MayLeave, reads}
 use Rattle.blob_device.specs.Opened.{OpenedList}
-use Rattle.meta_store.proofs.Uses.{IsReadable}
+use Rattle.archives.specs.lemmas.init.State.{length_left, none_behind, unheld_records}
+use Rattle.meta_store.specs.lemmas.Uses.{IsReadable}
+use Rattle.paired.specs.lemmas.Glob.{buffers}
+use Rattle.paired.specs.lemmas.opening.Ends.{marked_is, marked_or_zero, prefix_sound}
+use Rattle.paired.specs.lemmas.pair.Facts.{proven_of}
+use Rattle.paired.specs.lemmas.pair.Synced.{Here}
+use Rattle.paired.specs.lemmas.reconcile.Kept.{sound_longer}
+use Rattle.paired.specs.lemmas.reconcile.Phases.{markers_one}
+use Rattle.paired.specs.lemmas.reconcile.Resting.{Resting, index_number, known_of, rests_no_chance, stored_at, values_at, values_number}
+use Rattle.segments.specs.lemmas.adding.Write.{ArePages}
 use Rattle.sealed_pages.specs.declared.page_blob.PageBlob.{PageBlob}
 use Rattle.section_manager.specs.declared.buffer.SectionBuffer as buffer
 use Rattle.section_manager.specs.declared.unsealed.WriteFactory.{WriteFactory}
 use Rattle.section_manager.specs.Sections.{IsHeld, section_key}
 use Rattle.section_manager.specs.Setting.{Setting}
-use Rattle.segments.proofs.adding.WriteLemmas.{ArePages}
 use Rattle.meta_store.specs.Store.{contents_of}
 use Rattle.paired.specs.glob.Sections as glob
 use Rattle.paired.specs.glob.Sections.{IsAllSettled}
@@ -21,20 +29,12 @@ use Rattle.paired.specs.Pair.{HasNoBytes, IsPair, IsSoundOn, Pair, list_of, reco
 use Rattle.paired.specs.Places.{Follow, last_end}
 use Rattle.paired.specs.Records.{entry_of, unbroken_prefix, is_sound}
 use Rattle.paired.specs.Replaying.{Run, is_sound_over, records_given}
-use Rattle.paired.proofs.GlobLemmas.{buffers}
-use Rattle.paired.proofs.opening.Ends.{prefix_sound, marked_is, marked_or_zero}
-use Rattle.paired.proofs.pair.Facts.{proven_of}
-use Rattle.paired.proofs.pair.Synced.{Here}
-use Rattle.paired.proofs.reconcile.Kept.{sound_longer}
-use Rattle.paired.proofs.reconcile.Phases.{markers_one}
-use Rattle.paired.proofs.reconcile.Resting.{Resting, known_of, index_number, rests_no_chance, stored_at, values_at, values_number}
 use Rattle.archives.specs.Archives.{Archive, IsSoundArchive, filing_of}
 use Rattle.archives.specs.Filing.{kept_entries}
 use Rattle.archives.specs.Lawful.{Lawful}
 use Rattle.archives.specs.Opening.{LeavesLawful}
 use Rattle.archives.proofs.ArchiveStands.{length_list}
 use Rattle.archives.proofs.init.Sound.{counted, decoded, lawful_read, no_foreign_before}
-use Rattle.archives.proofs.init.State.{length_left, none_behind, unheld_records}
 use Rattle.blob_device.proofs.general.Lists.{all_by}
 use Rattle.blob_device.proofs.general.Options.{none_or_value, some_there}
 

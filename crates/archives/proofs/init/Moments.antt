@@ -9,8 +9,8 @@ use Rattle.blob_device.specs.lemmas.Moments.{always_now, always_then, always_wea
 use Rattle.paired.specs.Crashes.{IsOwn}
 use Rattle.paired.specs.Kept.{Layout, IsSameLayout, stored_records}
 use Rattle.paired.specs.Opening.{MayBeOpened, OnlyOpens, Recalls, RecallsAlone}
-use Rattle.paired.proofs.opening.Laws.{recalls_on}
-use Rattle.paired.proofs.pair.Synced.{layout_as}
+use Rattle.paired.specs.lemmas.opening.Laws.{recalls_on}
+use Rattle.paired.specs.lemmas.pair.Synced.{layout_as}
 use Rattle.archives.specs.Commands.{Reopen}
 use Rattle.archives.specs.Filing.{Filing, kept}
 use Rattle.archives.specs.Machine.{State}

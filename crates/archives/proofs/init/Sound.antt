@@ -21,8 +21,8 @@ use Rattle.paired.specs.Pair.{AreApart, IsSoundOn, list_of, records_of, synced_l
 use Rattle.paired.specs.Places.{Follow, end_of}
 use Rattle.paired.specs.Records as stored
 use Rattle.paired.specs.Records.{unbroken_prefix, is_sound, records}
-use Rattle.paired.proofs.KeptLemmas.{stored_entries}
-use Rattle.paired.proofs.opening.Ends.{follow_first}
+use Rattle.paired.specs.lemmas.Kept.{stored_entries}
+use Rattle.paired.specs.lemmas.opening.Ends.{follow_first}
 use Rattle.paired.specs.lemmas.Records.{prefix-take}
 use Rattle.archives.specs.Archives.{Archive, LeavesNoForeign, filing_of, state_of}
 use Rattle.archives.specs.Filing.{Filing, filed, kept_entries}

@@ -1,5 +1,5 @@
 -- What an opening of an archive has kept: the state that it begins with.
-use Rattle.std.proofs.Common.{◌≡◌, ◌≢◌, inl, inr, refl, sym, ◌∙◌, ap, subst, ℕ, ◌/◌, ◌<◌, ◌≤◌, ◌^◌, Bool, List, [], length, map, Option, None, arith}
+use Rattle.std.proofs.Common.{◌≡◌, ◌≢◌, inl, inr, refl, sym, ◌∙◌, ap, subst, ℕ, ◌<◌, ◌≤◌, ◌^◌, Bool, List, [], length, map, Option, arith}
 use Rattle.std.specs.List.{AllByRecursion, Contains}
 use Rattle.std.specs.List.Sorted.{IsStrictlySortedBy}
 use Rattle.std.specs.Ordering.{nat_cmp}
@@ -9,21 +9,17 @@ use Rattle.blob_device.specs.Disk.{Disk}
 use Rattle.value_codec.specs.declared.codec.Error as codec
 use Rattle.value_codec.specs.declared.key.Key8.{Key8}
 use Rattle.meta_store.specs.Store.{Store, contents_of}
-use Rattle.meta_store.proofs.Uses.{IsReadable}
+use Rattle.archives.specs.lemmas.init.Records.{one_markers}
+use Rattle.meta_store.specs.lemmas.Uses.{IsReadable}
 use Rattle.sealed_pages.specs.declared.page_blob.PageBlob.{PageBlob}
-use Rattle.section_manager.specs.Sections.{IsHeld, key_of}
-use Rattle.segments.specs.FixedLists as fixed
-use Rattle.paired.specs.glob.Sections as glob
+use Rattle.section_manager.specs.Sections.{IsHeld}
 use Rattle.paired.specs.Kept.{Layout, Markers, kept, marker_of}
 use Rattle.paired.specs.Crashes.{HoldMarkers}
 use Rattle.paired.specs.Opening.{as_read, IsLawful}
 use Rattle.paired.specs.OpeningFound.{CountsAll, GivesInPlace, HasFound, HasKept}
-use Rattle.paired.specs.Pair.{Pair, length_of, list_of, records_of}
+use Rattle.paired.specs.Pair.{Pair, list_of, records_of}
 use Rattle.paired.specs.Records as stored
-use Rattle.paired.specs.Records.{records}
 use Rattle.paired.specs.Replaying.{Run, marker, records_given}
-use Rattle.paired.proofs.pair.Reads.{index_size}
-use Rattle.paired.specs.lemmas.Records.{length-records}
 use Rattle.archives.specs.Archives.{Archive, filing_of, state_of}
 use Rattle.archives.specs.Filing.{Filing, filed, kept_entries}
 use Rattle.archives.specs.IndexRecord.{index_of, key_of as key_in}
@@ -32,9 +28,8 @@ use Rattle.archives.specs.Opening.{HasStray, IsPastLimits}
 use Rattle.archives.specs.Rows.{Row, row_in}
 use Rattle.archives.specs.Standing.{IsStart}
 use Rattle.archives.proofs.ArchiveStands.{all_unmap}
-use Rattle.archives.proofs.init.Records.{one_markers}
 use Rattle.blob_device.proofs.general.Lists.{all_by}
-use Rattle.blob_device.proofs.general.Options.{none_or_value, some_there}
+use Rattle.archives.specs.lemmas.init.State.{length_left, none_behind}
 
 -- an archive over this pair that files so, and of which nothing was pruned
 abbrev pub archive_over : {F B : Type 0} → Pair F B → Filing → (List ℕ → Option codec.Error) → (ℕ → List Row) → Type 0 → (ℕ → Bool) → (ℕ → Bool) → Archive F B
@@ -65,31 +60,6 @@ stored_bytes e = e.stored
 -- what holds of all elements holds of one that is contained
 pub all_has : {X : Type 0} (P : X → Type 0) (xs : List X) (x : X) → AllByRecursion P xs → Contains xs x → P x
 all_has P xs x all has = All-contains P xs x (All-from_recursion P xs all) has
-
--- bytes that are none have no records
-no_records : (size : ℕ) → 1 ≤ size → records size [] ≡ []
-no_records size pos = nil_from_length (records size []) (omega (arith, length-records size [], pos))
-
-module _ {F S : Type 0} {gs : _} (p : Pair F (PageBlob S gs)) (pos : 1 ≤ p.layout.record_size) (d : Disk) (s : ℕ) where
-  -- a section that is not held has no records
-  pub unheld_records : p.index.sections.held s ≡ None → records_of p d s ≡ []
-  unheld_records none = ap (λ (o : Option (PageBlob S gs)). records p.layout.record_size (fixed.bytes_held o (d (key_of p.index.sections s)).content)) none ∙ no_records p.layout.record_size pos
-
-  pub unheld_list : p.index.sections.held s ≡ None → list_of p d s ≡ []
-  unheld_list none = ap (map (stored.entry_of p.layout.place (glob.section_bytes p.values d s))) (unheld_records none)
-
-  -- nor has one that no u64 names
-  pub none_behind : (IsHeld p.index.sections s → s < 2 ^ 64) → 2 ^ 64 ≤ s → list_of p d s ≡ []
-  none_behind number behind = elim (none_or_value (p.index.sections.held s)) [
-    | inl none ↦ unheld_list none
-    | inr some ↦ absurd (omega (arith, behind, number (some_there (p.index.sections.held s) some.0 some.1)))
-  ]
-
-  -- a section's length is that of its list
-  pub length_left : length_of p s ≡ length (list_of p d s)
-  length_left =
-      ap (λ (n : ℕ). n / p.layout.record_size) (sym (index_size p.index.sections d s)) ∙ sym (length-records p.layout.record_size (fixed.section_bytes p.index.sections d s))
-      ∙ sym (length-map (records_of p d s) (stored.entry_of p.layout.place (glob.section_bytes p.values d s)))
 
 module _ {F S : Type 0} {gs : _} (f : Filing) (readable : IsReadable f.layout.markers) (run walked : Run F (PageBlob S gs)) (a b e : Disk)
     (still : walked.layout ≡ f.layout) (store : walked.store ≡ run.store) (found : HasFound f.layout a b run)

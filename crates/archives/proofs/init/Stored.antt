@@ -17,20 +17,20 @@ use Rattle.section_manager.specs.Sections.{section_key, key_of, IsHeld}
 use Rattle.section_manager.specs.Setting.{Setting}
 use Rattle.section_manager.specs.unsealed.Buffer.{count_of, is_unsettled}
 use Rattle.section_manager.specs.unsealed.Laws.{rested, found_again}
-use Rattle.section_manager.proofs.buffers.NothingSealed.{nothing_sealed}
+use Rattle.paired.specs.lemmas.Glob.{buffers, idle_whole}
+use Rattle.paired.specs.lemmas.pair.Facts.{not_there}
+use Rattle.paired.specs.lemmas.pair.Reads.{index_size}
+use Rattle.paired.specs.lemmas.pair.Synced.{Here}
+use Rattle.paired.specs.lemmas.reconcile.Resting.{none_of, reads_absent, reads_there, rest_there}
+use Rattle.section_manager.specs.lemmas.buffers.NothingSealed.{nothing_sealed}
+use Rattle.segments.specs.lemmas.adding.Write.{ArePages}
 use Rattle.segments.specs.FixedLists as fixed
 use Rattle.segments.specs.FixedReplay.{kept_of}
-use Rattle.segments.proofs.adding.WriteLemmas.{ArePages}
 use Rattle.paired.specs.glob.Sections as glob
 use Rattle.paired.specs.Kept.{content_at, stored_records}
 use Rattle.paired.specs.Opening.{as_read}
 use Rattle.paired.specs.Records.{unbroken_prefix, records}
 use Rattle.paired.specs.Replaying.{HasFailed, IsOpeningRun, IsRun, LeftAtMost, Run, is_sound_over, marker, pair_of, records_given, records_over}
-use Rattle.paired.proofs.GlobLemmas.{buffers, idle_whole}
-use Rattle.paired.proofs.pair.Facts.{not_there}
-use Rattle.paired.proofs.pair.Reads.{index_size}
-use Rattle.paired.proofs.pair.Synced.{Here}
-use Rattle.paired.proofs.reconcile.Resting.{none_of, reads_absent, reads_there, rest_there}
 use Rattle.paired.specs.lemmas.Records.{length-records}
 use Rattle.blob_device.proofs.general.Options.{none_or_value, some_same, some_there, value_of}
 

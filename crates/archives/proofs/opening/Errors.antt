@@ -30,16 +30,16 @@ use Rattle.section_manager.specs.Setting.{Setting}
 use Rattle.segments.specs.FixedItems.{item_at}
 use Rattle.segments.specs.FixedLists.{section_size, size_held}
 use Rattle.segments.specs.FixedReplay.{FindsDamage, kept_bytes}
-use Rattle.segments.proofs.adding.WriteLemmas.{ArePages}
+use Rattle.paired.specs.lemmas.Replay.{record_at}
+use Rattle.paired.specs.lemmas.next.Clauses.{Clauses}
+use Rattle.paired.specs.lemmas.pair.Failing.{rose_before}
+use Rattle.paired.specs.lemmas.pair.Synced.{Here}
+use Rattle.segments.specs.lemmas.adding.Write.{ArePages}
 use Rattle.paired.specs.Kept.{Layout, marker_of, stored_records}
 use Rattle.paired.specs.Opening.{as_read, IsLawful}
 use Rattle.paired.specs.OpeningRefusing.{AreSpellings}
 use Rattle.paired.specs.Records.{each_below, records}
 use Rattle.paired.specs.Replaying.{IsOpeningRun, IsUnspelled, Run, marker, pair_of, records_over}
-use Rattle.paired.proofs.next.Answers.{Clauses}
-use Rattle.paired.proofs.pair.Failing.{rose_before}
-use Rattle.paired.proofs.pair.Synced.{Here}
-use Rattle.paired.proofs.ReplayLemmas.{record_at}
 use Rattle.archives.specs.declared.error.Error as archive
 use Rattle.archives.specs.declared.error.Error.TheVariants.{Journal, Metadata, RecordCorrupted}
 use Rattle.archives.specs.Opening.{FindsShort}

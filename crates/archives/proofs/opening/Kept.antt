@@ -12,13 +12,13 @@ use Rattle.value_codec.specs.declared.key.Key8.{Key8}
 use Rattle.section_manager.specs.declared.buffer.SectionBuffer as buffer
 use Rattle.section_manager.specs.declared.unsealed.WriteFactory.{WriteFactory}
 use Rattle.section_manager.specs.Setting.{Setting}
-use Rattle.segments.proofs.adding.WriteLemmas.{ArePages}
+use Rattle.paired.specs.lemmas.Glob.{buffers}
+use Rattle.paired.specs.lemmas.pair.Synced.{Here}
+use Rattle.segments.specs.lemmas.adding.Write.{ArePages}
 use Rattle.paired.specs.Kept.{Layout, kept, marker_of, stored_records}
 use Rattle.paired.specs.Opening.{as_read}
 use Rattle.paired.specs.Records as stored
 use Rattle.paired.specs.Replaying.{GivesRecord, HasFailed, IsDue, IsRun, Run, marker, pair_of, records_given}
-use Rattle.paired.proofs.GlobLemmas.{buffers}
-use Rattle.paired.proofs.pair.Synced.{Here}
 use Rattle.archives.specs.IndexRecord.{index_of}
 use Rattle.archives.specs.Machine.{section_of}
 use Rattle.archives.specs.Opening.{HasEntered, HasStray, IsPastLimits}

@@ -18,8 +18,8 @@ use Rattle.paired.specs.ReplayShown.{run_of}
 use Rattle.paired.specs.sighted.Shown.{marker_format}
 use Rattle.paired.specs.declared.oversized.replaying.Replay.{Replay}
 use Rattle.paired.specs.Replaying.{HasFailed, IsRun, LeftAtMost, Run, SameRun, records_given}
-use Rattle.paired.proofs.GlobLemmas.{buffers}
-use Rattle.paired.proofs.next.Answers.{Clauses}
+use Rattle.paired.specs.lemmas.Glob.{buffers}
+use Rattle.paired.specs.lemmas.next.Clauses.{Clauses}
 use Rattle.archives.proofs.opening.Walk.{Moves, Stays, moves_index, moves_start, moves_then, stays_start, stays_then}
 
 -- ---- the same replay

@@ -5,7 +5,9 @@ use Rattle.blob_device.specs.Timeline.{Always, disk}
 use Rattle.blob_device.specs.declared.device.Device as device
 use Rattle.meta_store.specs.Store.{Stands, contents_of}
 use Rattle.meta_store.specs.declared.error.Side.{Side}
-use Rattle.meta_store.proofs.Uses.{IsReadable}
+use Rattle.archives.specs.lemmas.init.Records.{has_no_version, no_version_left, one_markers}
+use Rattle.meta_store.specs.lemmas.Uses.{IsReadable}
+use Rattle.paired.specs.lemmas.opening.Start.{read_alike, stored_alike}
 use Rattle.sealed_pages.specs.declared.page_blob.PageBlob.{PageBlob}
 use Rattle.section_manager.specs.Sections.{section_key}
 use Rattle.paired.specs.Kept.{Layout, Markers, kept, marker_of, stored_records}
@@ -14,7 +16,6 @@ use Rattle.paired.specs.Opening.{IsLawful, OnlyOpens, as_read}
 use Rattle.paired.specs.OpeningFound.{HasFound}
 use Rattle.paired.specs.Pair.{AreApart}
 use Rattle.paired.specs.Replaying.{LeftAtMost, Run, marker, records_given}
-use Rattle.paired.proofs.opening.Start.{read_alike, stored_alike}
 use Rattle.archives.specs.Archives.{Buffers}
 use Rattle.archives.specs.Enters.{Drains}
 use Rattle.archives.specs.Filing.{Filing, kept_entries}
@@ -25,7 +26,6 @@ use Rattle.archives.specs.declared.error.Error.{Error}
 use Rattle.archives.specs.declared.prunable.limits.Limits.{Limits}
 use Rattle.archives.proofs.init.Ends.{moved_kept}
 use Rattle.archives.proofs.init.Moments.{EntriesStay, OthersStay, Recalling, StaysOpen, entries_on, open_as, others_on, recalling_on}
-use Rattle.archives.proofs.init.Records.{has_no_version, no_version_left, one_markers}
 
 -- ---- what a part touches and leaves
 

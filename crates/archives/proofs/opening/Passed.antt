@@ -12,27 +12,27 @@ use Rattle.sealed_pages.specs.Shown.{shown}
 use Rattle.sealed_pages.specs.Unrecovered.{IsAdopted}
 use Rattle.sealed_pages.specs.View.{View, view}
 use Rattle.sealed_pages.specs.declared.page_blob.PageBlob.{PageBlob}
-use Rattle.sealed_pages.proofs.adopted.Adopt.{get_or-data_from, length-data_from}
-use Rattle.sealed_pages.proofs.memory.Holding.{bytes_length}
-use Rattle.sealed_pages.proofs.looking.ReadLemmas.{read_data}
-use Rattle.sealed_pages.proofs.cutting.Truncating.{all_flushed}
-use Rattle.sealed_pages.proofs.UnrecoveredLemmas.{prefix_short}
+use Rattle.paired.specs.lemmas.Glob.{buffers}
+use Rattle.paired.specs.lemmas.Kept.{stored_entries}
+use Rattle.paired.specs.lemmas.opening.Ends.{prefix_all}
+use Rattle.paired.specs.lemmas.pair.Synced.{Here}
+use Rattle.sealed_pages.specs.lemmas.Unrecovered.{prefix_short}
+use Rattle.sealed_pages.specs.lemmas.adopted.Adopt.{get_or-data_from, length-data_from}
+use Rattle.sealed_pages.specs.lemmas.cutting.Truncating.{all_flushed}
+use Rattle.sealed_pages.specs.lemmas.looking.Read.{read_data}
+use Rattle.sealed_pages.specs.lemmas.memory.Holding.{bytes_length}
+use Rattle.segments.specs.lemmas.adding.Write.{ArePages}
+use Rattle.segments.specs.lemmas.replay.Kept.{covered_length, flushed_data, prefix_data, sealed_flushed}
 use Rattle.section_manager.specs.declared.buffer.SectionBuffer as buffer
 use Rattle.section_manager.specs.declared.journal.Damage.{Damage}
 use Rattle.section_manager.specs.declared.unsealed.WriteFactory.{WriteFactory}
 use Rattle.section_manager.specs.Sections.{IsHeld, key_of}
 use Rattle.section_manager.specs.Setting.{Setting}
 use Rattle.segments.specs.FixedReplay.{EndsBelow, IsAhead, IsGoneOver, IsIn, IsLeft, Place, ReadsIn, StandsIn, first_of, kept_bytes}
-use Rattle.segments.proofs.replay.Kept.{covered_length, flushed_data, prefix_data, sealed_flushed}
-use Rattle.segments.proofs.adding.WriteLemmas.{ArePages}
 use Rattle.paired.specs.Kept.{Layout, content_at, is_sound_in, kept, stored_records}
 use Rattle.paired.specs.Opening.{as_read}
 use Rattle.paired.specs.Records.{entry_of, unbroken_prefix, is_sound, records}
 use Rattle.paired.specs.Replaying.{HasFailed, IsDue, IsRun, Run, is_sound_over, marker, pair_of, records_given, records_over}
-use Rattle.paired.proofs.GlobLemmas.{buffers}
-use Rattle.paired.proofs.KeptLemmas.{stored_entries}
-use Rattle.paired.proofs.opening.Ends.{prefix_all}
-use Rattle.paired.proofs.pair.Synced.{Here}
 use Rattle.paired.specs.lemmas.Records.{prefix-take, length-records, records-enough, records-prefix}
 use Rattle.archives.proofs.init.Stored as opening
 use Rattle.blob_device.proofs.general.Numbers.{item_ends, times_next}

@@ -9,7 +9,7 @@ use Rattle.blob_device.specs.lemmas.Moments.{always_now, always_start, always_th
 use Rattle.paired.specs.Crashes.{IsIndexOf, IsOwn}
 use Rattle.paired.specs.Kept.{Layout, Markers, kept, marker_of, stored_records}
 use Rattle.paired.specs.Opening.{as_read, IsLawful, MayBeOpened, Recalls, RecallsAlone}
-use Rattle.paired.proofs.opening.Laws.{recalls_on}
+use Rattle.paired.specs.lemmas.opening.Laws.{recalls_on}
 
 module _ (l : Layout) (markers : Markers) (told : Type 0) where
   -- At each moment each crash leaves what a crash at the beginning would have left, and no blob changes but those of the pair.

@@ -12,7 +12,7 @@ use Rattle.archives.specs.Archives.{Archive}
 use Rattle.archives.specs.Machine.{section_of}
 use Rattle.archives.specs.Putting.{IsWrittenAfter, rows_after, size_after}
 use Rattle.archives.specs.Rows.{Row}
-use Rattle.archives.proofs.put.Rows.{other_or_same}
+use Rattle.archives.specs.lemmas.put.Rows.{other_or_same}
 
 module _ {F S : Type 0} {gs : _} (a : Archive F (PageBlob S gs)) (index sec : ℕ) (here : sec ≡ section_of a.items index) (skip : Bool) (free : skip ≡ false) where
   -- whether a section is that of the record

@@ -1,25 +1,20 @@
 -- An archive to whose pair a record with its value was added, and to whose tables its row.
-use Rattle.std.proofs.Common.{◌≡◌, ◌≢◌, ◌⊎◌, inl, inr, refl, sym, ◌∙◌, ap, subst, ℕ, ◌+◌, ◌/◌, ◌%◌, ◌^◌, ◌<◌, ◌≤◌, List, [], ◌∷◌, ◌++◌, length, map, Bool, false, Option, IsTrue, arith, length-append}
+use Rattle.std.proofs.Common.{◌≡◌, ◌≢◌, ◌⊎◌, inl, inr, refl, sym, ◌∙◌, ap, subst, ℕ, ◌+◌, ◌/◌, ◌^◌, ◌<◌, ◌≤◌, List, [], ◌∷◌, ◌++◌, length, map, Bool, false, Option, IsTrue, arith, length-append}
 use Rattle.std.specs.List.{AllByRecursion}
 use Rattle.std.proofs.lemmas.List.{map-append}
 use Rattle.blob_device.specs.Disk.{Disk}
 use Rattle.blob_device.specs.Opened.{OpenedList}
 use Rattle.value_codec.specs.declared.codec.Error as codec
 use Rattle.sealed_pages.specs.declared.page_blob.PageBlob.{PageBlob}
-use Rattle.sealed_pages.specs.declared.write_blob.WriteBlob.{WriteBlob}
-use Rattle.sealed_pages.specs.Shown as page_blob
-use Rattle.section_manager.specs.declared.buffer.SectionBuffer as buffer
-use Rattle.section_manager.specs.declared.unsealed.WriteFactory.{WriteFactory}
 use Rattle.section_manager.specs.Sections.{IsSame}
 use Rattle.section_manager.specs.Sections as sections
-use Rattle.section_manager.specs.SealedLaws.{counted}
-use Rattle.section_manager.specs.Setting.{Setting}
 use Rattle.segments.specs.FixedLists as fixed
 use Rattle.paired.specs.glob.Sections as glob
 use Rattle.paired.specs.Pair.{Pair, IsPair, length_of, list_of, records_of, synced_length}
 use Rattle.paired.specs.Records as stored
-use Rattle.paired.proofs.pair.Appending.{records-push}
-use Rattle.paired.proofs.pair.Reads.{index_size}
+use Rattle.archives.specs.lemmas.put.Rows.{other_or_same}
+use Rattle.paired.specs.lemmas.pair.Appending.{records-push}
+use Rattle.paired.specs.lemmas.pair.Reads.{index_size}
 use Rattle.paired.specs.lemmas.Records.{length-records}
 use Rattle.ordinal_store.specs.Numbers.{AddsNumber}
 use Rattle.archives.specs.Archives.{Archive, Buffers, IsArchive}
@@ -29,22 +24,13 @@ use Rattle.archives.specs.Machine.{section_of}
 use Rattle.archives.specs.Rows.{HasRoom, Row, row_in}
 use Rattle.archives.proofs.IndexSets.{row_added}
 use Rattle.archives.proofs.ArchiveStands.{list_records}
-use Rattle.archives.proofs.put.Rows.{few_now, few_sections_now, other_or_same}
+use Rattle.archives.proofs.put.Rows.{few_now, few_sections_now}
 use Rattle.blob_device.proofs.general.Lists.{all_push}
-use Rattle.blob_device.proofs.general.Numbers.{no_rest}
-use Rattle.blob_device.proofs.general.Options.{none_or_value}
+use Rattle.archives.specs.lemmas.put.Lemmas.{whole_bytes}
 
 -- a section has as many records as it counts
 record_counted : {F S : Type 0} {gs : _} (p : Pair F (PageBlob S gs)) (d : Disk) (s : ℕ) → length (records_of p d s) ≡ length_of p s
 record_counted p d s = length-records p.layout.record_size _ ∙ ap (λ (n : ℕ). n / p.layout.record_size) (index_size p.index.sections d s)
-
--- a section's records are whole
-pub whole_bytes : {F S : Type 0} {gs : _} {g : buffer.Ghosts (PageBlob S gs)} {gives : F → Setting} {h : buffer.Ghosts WriteBlob} {takes : WriteFactory → Setting} {told : Type 0} (p : Pair F (PageBlob S gs)) (opened : OpenedList) (d : Disk)
-    → IsPair g gives h takes told p opened d → told → (s : ℕ) → length (fixed.section_bytes p.index.sections d s) % p.layout.record_size ≡ 0
-whole_bytes p opened d pair t s = elim (none_or_value (p.index.sections.held s)) [
-  | inl none ↦ rw none (no_rest p.layout.record_size)
-  | inr some ↦ rw some.1 (ap (λ (n : ℕ). n % p.layout.record_size) (counted (page_blob.shown some.0) (d (sections.key_of p.index.sections s)).content) ∙ (pair.index.disk t).whole s some.0 some.1 (pair.whole.recovered s))
-]
 
 module _ {F S : Type 0} {gs : _} (a : Archive F (PageBlob S gs)) (q : Pair F (PageBlob S gs)) (refusal : List ℕ → Option codec.Error) (rows : ℕ → List Row) (Tied : Type 0) (indices is_written : ℕ → Bool)
     (index sec : ℕ) (here : sec ≡ section_of a.items index) (key : List ℕ) (n : ℕ) (d e : Disk) where

@@ -9,6 +9,7 @@ use Rattle.std.proofs.lemmas.List.Kept.{IsStrictlySortedBy-filter}
 use Rattle.std.proofs.lemmas.Nat.{div-add-mod'}
 use Rattle.archives.specs.Machine.{section_of}
 use Rattle.blob_device.proofs.general.Lists.{all_by}
+use Rattle.archives.specs.lemmas.put.Rows.{other_or_same}
 
 -- ---- a list without one number
 
@@ -19,14 +20,6 @@ is_other s t = not (t == s)
 -- the numbers but this one
 abbrev without : ℕ → List ℕ → List ℕ
 without s ss = filter (is_other s) ss
-
--- a number is another one, or the same
-pub other_or_same : (s t : ℕ) → (t ≡ s) ⊎ (t ≢ s)
-other_or_same s t = go (t == s) refl
-  where
-    go : (b : Bool) → (t == s) ≡ b → (t ≡ s) ⊎ (t ≢ s)
-    go true is = inl (grind (arith, nat_tests, is))
-    go false is = inr (λ same. grind (arith, nat_tests, is, same))
 
 is_same : (s t : ℕ) → t ≡ s → is_other s t ≡ false
 is_same s t is = grind (arith, nat_tests, is)

@@ -16,7 +16,7 @@ use Rattle.archives.specs.Putting.{Times, after_putting}
 use Rattle.archives.specs.Rows.{Row}
 use Rattle.archives.proofs.ArchiveStands.{no_foreign}
 use Rattle.archives.proofs.put.Lemmas.{Adds, grown, new_record, records_now}
-use Rattle.archives.proofs.put.Rows.{other_or_same}
+use Rattle.archives.specs.lemmas.put.Rows.{other_or_same}
 use Rattle.archives.proofs.put.Stands.{IsFree, lists_appended, new_entry, put_is, wanted, wanted_here, wanted_other}
 use Rattle.blob_device.proofs.general.Lists.{all_by, all_push}
 

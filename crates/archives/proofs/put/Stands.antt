@@ -20,8 +20,9 @@ use Rattle.paired.specs.glob.Sections as glob
 use Rattle.paired.specs.Pair.{list_of, records_of, synced_length}
 use Rattle.paired.specs.Places.{Follow}
 use Rattle.paired.specs.Records as stored
-use Rattle.paired.proofs.pair.Appending.{follow-push}
-use Rattle.paired.proofs.pair.Reads.{leaves_now}
+use Rattle.archives.specs.lemmas.put.Rows.{other_or_same}
+use Rattle.paired.specs.lemmas.pair.Appending.{follow-push}
+use Rattle.paired.specs.lemmas.pair.Reads.{leaves_now}
 use Rattle.archives.specs.Archives.{Archive, Buffers, IsArchive, IsSoundArchive, filing_of, state_of}
 use Rattle.archives.specs.Commands.{Command}
 use Rattle.archives.specs.Filing.{Filing, filed, kept}
@@ -29,14 +30,14 @@ use Rattle.archives.specs.IndexRecord.{index_record, index_of, key_of}
 use Rattle.archives.specs.IndexRecordLaws.{index_of-index_record, key_of-index_record}
 use Rattle.archives.specs.Machine.{Entry, State, appended, has_index, section_of}
 use Rattle.archives.specs.Putting.{Often, Once, Times, after_putting, is_skipped, put_command}
-use Rattle.archives.specs.PuttingLaws.{taken_state}
-use Rattle.archives.specs.Rows.{HasRoom, row_in}
+use Rattle.archives.specs.Rows.{HasRoom}
 use Rattle.archives.specs.Standing.{Leaves, StandsFor, submitted}
 use Rattle.archives.proofs.ArchiveStands.{are_filed, glob_buffers, in_section, length_rows, list_records, names_left, no_foreign, no_list, stands_at}
-use Rattle.archives.proofs.put.Rows.{few_now, few_sections_now, other_or_same}
+use Rattle.archives.proofs.put.Rows.{few_now, few_sections_now}
 use Rattle.archives.proofs.PuttingLemmas.{submits_by}
 use Rattle.archives.proofs.StandLemmas.{AreFiled, keeps_stand}
 use Rattle.blob_device.proofs.general.Lists.{all_by, all_push}
+use Rattle.archives.specs.lemmas.put.Stands.{put_appends}
 
 -- ---- at rest
 
@@ -90,20 +91,6 @@ put_adds times items index key value st s = by times
     by Often = go (nat_lt index st.floor)
 
 -- ---- a put that appends
-
--- a put that is skipped changes nothing, and one that is not appends
-module _ {F S : Type 0} {gs : _} (a : Archive F (PageBlob S gs)) (d : Disk) (index : ℕ) (key value : List ℕ) (listed : (s : ℕ) → a.rows s ≡ map (row_in a.key_size) (records_of a.pair d s)) where
-  pub put_by : (b : Bool) (times : Times) → is_skipped a index times ≡ b
-      → after_putting times a.items index key value (state_of a d) ≡ (if b then state_of a d else appended a.items index key value (state_of a d))
-  put_by b Once is =
-      ap (λ (x : Bool). if x then state_of a d else appended a.items index key value (state_of a d)) (ap (λ (x : Bool). nat_lt index a.floor || x) (sym (taken_state a d listed index)) ∙ is)
-  put_by b Often is = ap (λ (x : Bool). if x then state_of a d else appended a.items index key value (state_of a d)) is
-
-  pub put_skipped : (times : Times) → is_skipped a index times ≡ true → after_putting times a.items index key value (state_of a d) ≡ state_of a d
-  put_skipped times is = put_by true times is
-
-  pub put_appends : (times : Times) → is_skipped a index times ≡ false → after_putting times a.items index key value (state_of a d) ≡ appended a.items index key value (state_of a d)
-  put_appends times is = put_by false times is
 
 module _ {F S : Type 0} {gs : _} (a : Archive F (PageBlob S gs)) (index sec : ℕ) (here : sec ≡ section_of a.items index) (key value : List ℕ) (n : ℕ) (d : Disk) where
   -- the record, which names the place behind the section's values, with its value

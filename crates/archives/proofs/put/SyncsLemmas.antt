@@ -18,7 +18,8 @@ use Rattle.section_manager.specs.declared.sealed.AppendFactory.{AppendFactory}
 use Rattle.section_manager.specs.declared.journal.Error.TheVariants as section
 use Rattle.paired.specs.Crashes.{IsOwn}
 use Rattle.paired.specs.Kept.{marker_of}
-use Rattle.paired.proofs.pair.Failing.{rose_before}
+use Rattle.archives.specs.lemmas.put.Sync.{filing_then}
+use Rattle.paired.specs.lemmas.pair.Failing.{rose_before}
 use Rattle.archives.specs.Archives.{Archive}
 use Rattle.archives.specs.Changes.{Asked, Changes, IsSoundOver, state_over}
 use Rattle.archives.specs.Commands.{Sync}
@@ -38,7 +39,7 @@ use Rattle.archives.specs.declared.error.Error.{Error}
 use Rattle.archives.specs.declared.error.Error.TheVariants.{Full, Journal, Mem, Metadata, RecordCorrupted}
 use Rattle.archives.proofs.Alike.{alike_as}
 use Rattle.archives.proofs.PuttingLemmas.{by_step, none_goes, start_step_by, start_submits, submits_by, sync_step_by, sync_submits}
-use Rattle.archives.proofs.put.Sync.{filing_then, moving_after, moving_now, own_as, section_small, settled_put, stands_as}
+use Rattle.archives.proofs.put.Sync.{moving_after, moving_now, own_as, section_small, settled_put, stands_as}
 
 -- ---- causes
 

@@ -13,7 +13,7 @@ use Rattle.section_manager.specs.declared.journal.Error.TheVariants as journal
 use Rattle.segments.specs.FixedReading.{IsDamaged}
 use Rattle.paired.specs.Frames.{HasFrame, IsBroken}
 use Rattle.paired.specs.glob.Sections as glob
-use Rattle.paired.proofs.pair.Failing.{rose_before}
+use Rattle.paired.specs.lemmas.pair.Failing.{rose_before}
 use Rattle.archives.specs.Archives.{Archive}
 use Rattle.archives.specs.Gets.{IsReadCause, IsRecordCause}
 use Rattle.archives.specs.Reading.{NamesPlace}

@@ -19,9 +19,9 @@ use Rattle.paired.specs.Frames.{HasFrame, IsBroken, bytes_at}
 use Rattle.paired.specs.glob.Reading as frames
 use Rattle.paired.specs.glob.Sections as glob
 use Rattle.paired.specs.Pair.{IsPair, list_of, records_of}
-use Rattle.paired.proofs.GlobLemmas.{buffers, section_counted}
-use Rattle.paired.proofs.KeptLemmas.{sound_parts}
-use Rattle.paired.proofs.pair.Reads.{frame_held, frame_not_short, frame_spells, sound_entry, sound_unbroken}
+use Rattle.paired.specs.lemmas.Glob.{buffers, section_counted}
+use Rattle.paired.specs.lemmas.Kept.{sound_parts}
+use Rattle.paired.specs.lemmas.pair.Reads.{frame_held, frame_not_short, frame_spells, sound_entry, sound_unbroken}
 use Rattle.archives.specs.Archives.{Archive, IsArchive, IsSoundArchive}
 use Rattle.archives.specs.IndexRecord.{IsSpelled}
 use Rattle.archives.specs.Raised.{raised}

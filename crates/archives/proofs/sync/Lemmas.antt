@@ -1,5 +1,5 @@
 -- What a sync of its pair makes of an archive, and what it leaves at each moment.
-use Rattle.std.proofs.Common.{◌≡◌, ◌≢◌, ◌⊎◌, inl, inr, refl, sym, ◌∙◌, ap, subst, ℕ, ◌+◌, ◌/◌, ◌<◌, ◌≤◌, ◌^◌, Bool, true, false, List, [], ◌∷◌, length, map, Option, None, Some, IsSome, IsTrue, arith}
+use Rattle.std.proofs.Common.{◌≡◌, ◌≢◌, ◌⊎◌, inl, inr, refl, sym, ◌∙◌, ap, subst, ℕ, ◌+◌, ◌<◌, ◌≤◌, ◌^◌, Bool, true, false, List, [], ◌∷◌, length, map, Option, None, Some, IsSome, IsTrue, arith}
 use Rattle.std.proofs.Math.Path.{fun_ext}
 use Rattle.std.specs.BTreeSet as set
 use Rattle.std.specs.BTreeMap.{is_at}
@@ -23,9 +23,8 @@ use Rattle.paired.specs.PairFaults.{IsSyncedAfter}
 use Rattle.paired.specs.PairSync.{IsSyncOf, SyncKeeps}
 use Rattle.paired.specs.Places.{Follow}
 use Rattle.paired.specs.Records as stored
-use Rattle.paired.proofs.KeptLemmas.{follow_least}
-use Rattle.paired.proofs.pair.Reads.{index_size, leaves_now}
-use Rattle.paired.specs.lemmas.Records.{length-records}
+use Rattle.paired.specs.lemmas.Kept.{follow_least}
+use Rattle.paired.specs.lemmas.pair.Reads.{leaves_now}
 use Rattle.archives.specs.Archives.{Archive, IsArchive, IsSoundArchive, LeavesNoForeign, filing_of, state_of}
 use Rattle.archives.specs.Filing.{filed}
 use Rattle.archives.specs.IndexRecord.{IsSpelled}
@@ -37,6 +36,7 @@ use Rattle.archives.proofs.PuttingLemmas.{none_still}
 use Rattle.archives.proofs.StandLemmas.{keeps_stand}
 use Rattle.blob_device.proofs.general.Lists.{all_by}
 use Rattle.blob_device.proofs.general.Options.{none_or_value}
+use Rattle.archives.specs.lemmas.sync.Lemmas.{list_counted}
 
 -- places that follow each other end at one place only
 pub follow_one_end : (place : List ℕ → ℕ × ℕ) (rs : List (List ℕ)) (at m n : ℕ) → Follow place at rs m → Follow place at rs n → m ≡ n
@@ -67,11 +67,6 @@ none_in x none s = ap (list_any (is_at (nat_cmp s))) none
 pub records_same : {F S : Type 0} {gs : _} (p q : Pair F (PageBlob S gs)) (d e : Disk) (s : ℕ) → list_of q e s ≡ list_of p d s → records_of q e s ≡ records_of p d s
 records_same p q d e s same =
     sym (stored_again q.layout.place (glob.section_bytes q.values e s) (records_of q e s)) ∙ ap (map (λ x. x.stored)) same ∙ stored_again p.layout.place (glob.section_bytes p.values d s) (records_of p d s)
-
--- a section's list is as long as the section counts
-pub list_counted : {F S : Type 0} {gs : _} (p : Pair F (PageBlob S gs)) (d : Disk) (s : ℕ) → length (list_of p d s) ≡ length_of p s
-list_counted p d s =
-    length-map (records_of p d s) (stored.entry_of p.layout.place (glob.section_bytes p.values d s)) ∙ length-records p.layout.record_size _ ∙ ap (λ (n : ℕ). n / p.layout.record_size) (index_size p.index.sections d s)
 
 module _ {F S : Type 0} {gs : _} (a : Archive F (PageBlob S gs)) where
   abbrev pub IsNamed : ℕ → Type 0

@@ -20,7 +20,7 @@ use Rattle.paired.specs.glob.Sections as glob
 use Rattle.paired.specs.Kept.{content_at}
 use Rattle.paired.specs.Opening.{as_read}
 use Rattle.paired.specs.Pair.{IsPair, Pair, length_of, synced_length}
-use Rattle.paired.proofs.GlobLemmas.{buffers}
+use Rattle.paired.specs.lemmas.Glob.{buffers}
 use Rattle.blob_device.proofs.general.Options.{none_or_value}
 
 -- what an option of a known value has

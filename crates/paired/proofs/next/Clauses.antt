@@ -17,17 +17,19 @@ use Rattle.section_manager.specs.Sections.{key_of}
 use Rattle.section_manager.specs.Setting.{Setting}
 use Rattle.segments.specs.FixedReading.{IsBelowFloor, HasNotRead}
 use Rattle.segments.specs.FixedReplay.{Walk, FindsDamage}
-use Rattle.segments.proofs.adding.WriteLemmas.{ArePages}
+use Rattle.paired.specs.lemmas.Glob.{buffers}
+use Rattle.paired.specs.lemmas.next.Clauses.{Clauses}
+use Rattle.paired.specs.lemmas.next.Going.{Running}
+use Rattle.paired.specs.lemmas.next.Running.{moved}
+use Rattle.paired.specs.lemmas.pair.Synced.{Here}
+use Rattle.segments.specs.lemmas.adding.Write.{ArePages}
 use Rattle.paired.specs.Replaying.{Limits, Run, pair_of, HasFailed as HasErred, GivesRecord, IsRun}
-use Rattle.paired.proofs.GlobLemmas.{buffers}
-use Rattle.paired.proofs.next.Answers.{Clauses, images_now}
+use Rattle.paired.proofs.next.Answers.{images_now}
 use Rattle.paired.proofs.next.Complete.{only_failed}
 use Rattle.paired.proofs.next.Glue.{same_moved}
-use Rattle.paired.proofs.next.Going.{Running, all_went, all_nearer, was_start, was_damage, was_damaged, was_refused, was_cut, was_ends, was_cause, was_none, last_run, last_reads, last_unread, last_entries, all_on, reads_then, unread_then, entries_then, faults_then, run_sorted, walk_failed, walk_ended, item_then, run_failed, loses_then, whose_error, same_faults, here_disk}
-use Rattle.paired.proofs.next.Running.{moved}
+use Rattle.paired.proofs.next.Going.{all_went, all_nearer, was_start, was_damage, was_damaged, was_refused, was_cut, was_ends, was_cause, was_none, last_run, last_reads, last_unread, last_entries, all_on, reads_then, unread_then, entries_then, faults_then, run_sorted, walk_failed, walk_ended, item_then, run_failed, loses_then, whose_error, same_faults, here_disk}
 use Rattle.paired.proofs.next.Says.{Says}
 use Rattle.paired.proofs.next.Turn.{Sorted}
-use Rattle.paired.proofs.pair.Synced.{Here}
 
 -- a failure is no other error
 no_start : {V : Type 0} (x : Error) (p few many : ℕ) → x ≡ ItemOutOfRange p → HasFailed {T = V} (Err x) few many → ⊥

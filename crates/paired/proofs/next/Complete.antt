@@ -13,7 +13,13 @@ use Rattle.sealed_pages.specs.declared.page_blob.PageBlob.{PageBlob}
 use Rattle.sealed_pages.specs.Buffer.{size_of, bytes_of, IsSealed}
 use Rattle.sealed_pages.specs.SealedPrefix.{sealed_prefix}
 use Rattle.sealed_pages.specs.Shown.{shown}
-use Rattle.sealed_pages.proofs.cutting.Truncating.{all_flushed}
+use Rattle.paired.specs.lemmas.Glob.{buffers}
+use Rattle.paired.specs.lemmas.next.Went.{Went}
+use Rattle.paired.specs.lemmas.opening.Ends.{marked_is, marked_or_zero}
+use Rattle.paired.specs.lemmas.pair.Synced.{Here}
+use Rattle.sealed_pages.specs.lemmas.cutting.Truncating.{all_flushed}
+use Rattle.segments.specs.lemmas.adding.Write.{ArePages}
+use Rattle.segments.specs.lemmas.replay.Kept.{sealed_by_length, sealed_flushed, short_length}
 use Rattle.value_codec.specs.declared.codec.Error as codec
 use Rattle.section_manager.specs.declared.buffer.SectionBuffer as buffer
 use Rattle.section_manager.specs.declared.journal.Damage.{Damage}
@@ -27,19 +33,13 @@ use Rattle.section_manager.specs.Setting.{Setting}
 use Rattle.segments.specs.FixedLists.{size_held}
 use Rattle.segments.specs.FixedReading.{IsBelowFloor, HasNotRead}
 use Rattle.segments.specs.FixedReplay.{Walk, IsWalk, EndsBelow, FindsDamage, Replaying, kept_of, kept_bytes}
-use Rattle.segments.proofs.replay.Kept.{short_length, sealed_by_length, sealed_flushed}
-use Rattle.segments.proofs.adding.WriteLemmas.{ArePages}
 use Rattle.meta_store.specs.Store.{contents_of}
 use Rattle.paired.specs.Kept.{content_at, stored_records}
 use Rattle.paired.specs.Opening.{as_read, IsLawful}
 use Rattle.paired.specs.OpeningRefusing.{AreSpellings}
 use Rattle.paired.specs.Records.{records}
 use Rattle.paired.specs.Replaying.{Run, pair_of, marker, records_over, IsOpeningRun, IsRun, IsUnspelled}
-use Rattle.paired.proofs.GlobLemmas.{buffers}
 use Rattle.paired.proofs.next.Turn.{left_held}
-use Rattle.paired.proofs.next.Went.{Went}
-use Rattle.paired.proofs.opening.Ends.{marked_is, marked_or_zero}
-use Rattle.paired.proofs.pair.Synced.{Here}
 use Rattle.paired.specs.lemmas.Records.{length-records}
 use Rattle.blob_device.proofs.general.Options.{none_or_value, some_of, some_there, the_some}
 

@@ -20,20 +20,22 @@ use Rattle.segments.specs.FixedLists.{section_size, size_held}
 use Rattle.segments.specs.FixedReading.{IsBelowFloor, HasNotRead}
 use Rattle.segments.specs.FixedReplay.{Walk, IsLeft, EndsBelow, FindsDamage, kept_bytes}
 use Rattle.segments.specs.FixedStepping.{way_of}
-use Rattle.segments.proofs.replay.Reading.{not_read_since, failed_since}
-use Rattle.segments.proofs.adding.WriteLemmas.{ArePages}
+use Rattle.paired.specs.lemmas.Glob.{buffers}
+use Rattle.paired.specs.lemmas.Replay.{record_at}
+use Rattle.paired.specs.lemmas.next.Running.{moved}
+use Rattle.paired.specs.lemmas.next.Went.{Goes, Went, goes_still, goes_then, went_still, went_then}
+use Rattle.paired.specs.lemmas.pair.Synced.{Here}
+use Rattle.segments.specs.lemmas.adding.Write.{ArePages}
+use Rattle.segments.specs.lemmas.replay.Reading.{failed_since, not_read_since}
 use Rattle.paired.specs.Crashes.{IsIndexOf, IsValuesOf}
 use Rattle.paired.specs.glob.Sections.{IsGlob}
 use Rattle.paired.specs.Replaying.{Limits, Run, pair_of, records_over, records_given, IsDue, IsChecked, IsRun, GivesRecord, LosesRecords, IsCutting, IsUnspelled, LeftAtMost}
-use Rattle.paired.proofs.GlobLemmas.{buffers}
-use Rattle.paired.proofs.next.Running.{moved}
 use Rattle.paired.proofs.next.Says.{Says, went_of, goes_of}
 use Rattle.paired.proofs.next.Turn.{Sorted, on_ok, on_err, if_ok, item_left, item_records, fine, run_turned, run_ended, none_reads, values_entry, values_over, entries_other, stop_loses, stop_checked, sorted_checked, record_given, record_skipped, check_loses, check_checked, reads_stopped, reads_sorted, live_unread, entries_on, same_disk, turns}
-use Rattle.paired.proofs.next.Went.{Went, Goes, went_start, goes_start, went_then, goes_then, went_still, goes_still}
-use Rattle.paired.proofs.pair.Synced.{Here}
 use Rattle.paired.specs.lemmas.Records.{length-records}
-use Rattle.paired.proofs.ReplayLemmas.{given_stay, record_at}
+use Rattle.paired.proofs.ReplayLemmas.{given_stay}
 use Rattle.blob_device.proofs.general.Options.{none_or_value, some_of, some_there}
+use Rattle.paired.specs.lemmas.next.Going.{Running}
 
 -- an error of one call is one of another
 other_failed : {T U : Type 0} (r : Result T Error) (x : Error) → r ≡ Err x → (few many : ℕ) → HasFailed r few many → HasFailed {T = U} (Err x) few many
@@ -43,43 +45,6 @@ other_failed r x is few many (inr fault) = (let at = fault.0 in inr (cc (at, is)
 -- fewer bytes than those of p items
 below_same : (x y p k : ℕ) → 1 ≤ k → x / k ≡ y / k → x < p * k → y < p * k
 below_same x y p k pos same lt = (div-lt_iff_lt-mul (omega (arith, pos))).0 (omega (arith, same, (div-lt_iff_lt-mul {k = k} {x = x} {y = p} (omega (arith, pos))).1 lt))
-
-module _ {F S : Type 0} {gs : _} (g : buffer.Ghosts (PageBlob S gs)) (gives : F → Setting) (takes : WriteFactory → Setting) (told : Type 0) (run : Run F (PageBlob S gs)) (before : OpenedList) (a : Timeline) (few : ℕ) where
-  -- The walk has come to w, and each record on the way was skipped.
-  pub record Running (w : Walk F (PageBlob S gs)) (ends : Limits) (ended : Option ℕ) (failed : Bool) (opened : OpenedList) (b : Timeline) (count : ℕ) : Type 0 where
-    pub went : Went run.layout.seal run.layout.record_size g told run.walk w a b
-    pub goes : Goes run.layout.seal run.layout.record_size g told run.walk w a b
-    pub over : IsRun (moved run w ends ended failed) g gives buffers takes told opened (disk b)
-    pub nearer : way_of w ≤ way_of run.walk
-    pub same_failed : failed ≡ run.failed
-    pub same_ended : ended ≡ run.ended_section
-    pub due : told → (t q : ℕ) → IsDue (moved run w ends ended failed) (disk b) t q ↔ IsDue run (disk a) t q
-    pub left : told → (t q : ℕ) → IsLeft run.layout.seal run.layout.record_size w (disk b) t q → IsLeft run.layout.seal run.layout.record_size run.walk (disk a) t q
-    pub records : told → (t : ℕ) → records_over (moved run w ends ended failed) (disk b) t ≡ records_over run (disk a) t
-    pub given : told → (t : ℕ) → records_given (moved run w ends ended failed) (disk b) t ≡ records_given run (disk a) t
-    pub reads : told → (s n : ℕ) → s < 2 ^ 64 → LeftAtMost run (disk a) s n
-        → (m : ℕ) × LeftAtMost (moved run w ends ended failed) (disk b) s m × (reads_of (opened (section_key run.layout.values s)) + m ≤ reads_of (before (section_key run.layout.values s)) + n)
-    pub unread : run.tracked ≡ false → (s : ℕ) → opened (section_key run.layout.values s) ≡ before (section_key run.layout.values s)
-    pub entries : (q : Key) → (IsIndexOf run.layout (λ _. ⊤) q ⊎ IsValuesOf run.layout (λ _. ⊤) q → ⊥) → opened q ≡ before q
-    pub faults : few ≤ count
-
-  pub running_start : IsRun run g gives buffers takes told before (disk a) → Running run.walk run.ends run.ended_section run.failed before a few
-  running_start was = record {
-    went = went_start run.layout.seal run.layout.record_size g told run.walk a;
-    goes = goes_start run.layout.seal run.layout.record_size g told run.walk a;
-    over = was;
-    nearer = omega arith;
-    same_failed = refl;
-    same_ended = refl;
-    due = λ t s q. (λ is. is, λ is. is);
-    left = λ t s q is. is;
-    records = λ t s. refl;
-    given = λ t s. refl;
-    reads = λ t s n small most. (n, most, omega arith);
-    unread = λ untracked s. refl;
-    entries = λ q not. refl;
-    faults = omega arith;
-  }
 
 module _ {F S V : Type 0} {gs : _} (g : buffer.Ghosts (PageBlob S gs)) (gives : F → Setting) (takes : WriteFactory → Setting) (told : Type 0) (run : Run F (PageBlob S gs)) (pages : ArePages g run.layout.seal)
     (spelling : V → List ℕ) (accepted : V → Unit {0} → Type 0) (refusal : List ℕ → Unit {0} → Option codec.Error) (location : V → ℕ × ℕ) (spelled : (r : V) → accepted r tt → run.layout.place (spelling r) ≡ location r)

@@ -24,13 +24,16 @@ use Rattle.section_manager.specs.Setting.{Setting}
 use Rattle.section_manager.specs.lemmas.Keys.{key_injective}
 use Rattle.segments.specs.FixedReplay.{Walk, SameItems, Replaying}
 use Rattle.segments.specs.lemmas.FixedOwed.{same_items}
-use Rattle.segments.proofs.adding.WriteLemmas.{ArePages}
+use Rattle.meta_store.specs.lemmas.Leaving.{settled_content}
+use Rattle.paired.specs.lemmas.Glob.{buffers}
+use Rattle.paired.specs.lemmas.next.Went.{Went}
+use Rattle.paired.specs.lemmas.pair.Synced.{Here}
+use Rattle.segments.specs.lemmas.adding.Write.{ArePages}
 use Rattle.meta_store.specs.Blobs.{blob_of, bytes_of}
 use Rattle.meta_store.specs.Crashes as metadata
 use Rattle.meta_store.specs.declared.error.Side.{Side}
 use Rattle.meta_store.specs.declared.error.Side.TheVariants.{Left, Right}
 use Rattle.meta_store.specs.Pairs.{HoldMap}
-use Rattle.meta_store.proofs.Leaving.{settled_content}
 use Rattle.paired.specs.Crashes.{IsIndexOf, WasThere}
 use Rattle.paired.specs.Kept.{Layout, Markers, content_at, stored_records, is_sound_in, kept}
 use Rattle.paired.specs.Opening.{as_read, IsLawful, NoChanceSlots, MayBeOpened, RecallsAlone}
@@ -39,10 +42,7 @@ use Rattle.paired.specs.Pair.{AreApart}
 use Rattle.paired.specs.Places.{Follow}
 use Rattle.paired.specs.Records.{records, unbroken_prefix, entry_of, is_sound}
 use Rattle.paired.specs.Replaying.{Run, pair_of, IsRun, IsStill}
-use Rattle.paired.proofs.GlobLemmas.{buffers}
-use Rattle.paired.proofs.next.Went.{Went}
 use Rattle.paired.proofs.pair.Moments.{no_index, copy_no_index}
-use Rattle.paired.proofs.pair.Synced.{Here}
 use Rattle.paired.proofs.ReplayLemmas.{records_of_items}
 use Rattle.paired.proofs.ReplayLemmasRecalls.{replaying_recalls}
 use Rattle.blob_device.proofs.general.Options.{none_or_value}

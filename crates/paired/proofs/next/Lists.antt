@@ -14,7 +14,13 @@ use Rattle.section_manager.specs.Sections.{section_key, key_of, IsHeld}
 use Rattle.section_manager.specs.Setting.{Setting}
 use Rattle.segments.specs.FixedLists as fixed
 use Rattle.segments.specs.FixedReplay.{Walk, Replaying}
-use Rattle.segments.proofs.adding.WriteLemmas.{ArePages}
+use Rattle.paired.specs.lemmas.Glob.{buffers}
+use Rattle.paired.specs.lemmas.next.Running.{moved}
+use Rattle.paired.specs.lemmas.next.Went.{Went}
+use Rattle.paired.specs.lemmas.pair.Blobs.{lasting_none}
+use Rattle.paired.specs.lemmas.pair.Facts.{Parts, facts_of, good_of, holding_of, lasting_held, unvalued, values_last}
+use Rattle.paired.specs.lemmas.pair.Synced.{Here}
+use Rattle.segments.specs.lemmas.adding.Write.{ArePages}
 use Rattle.meta_store.specs.Store.{contents_of}
 use Rattle.paired.specs.Crashes.{IsIndexOf, Keeping}
 use Rattle.paired.specs.glob.Sections as glob
@@ -23,14 +29,9 @@ use Rattle.paired.specs.Pair.{IsSoundOn, HasNoBytes, AreWhole, list_of, records_
 use Rattle.paired.specs.Places.{Follow, end_of}
 use Rattle.paired.specs.Records.{records, entries_of, is_sound}
 use Rattle.paired.specs.Replaying.{Limits, Run, pair_of, HasLostNone, IsLiveRun, IsRun}
-use Rattle.paired.proofs.GlobLemmas.{buffers}
 use Rattle.paired.proofs.next.Images.{here_key, moment_others, any_index, paged, unheld_blob, others_end}
-use Rattle.paired.proofs.next.Running.{moved}
-use Rattle.paired.proofs.next.Went.{Went, none_as}
-use Rattle.paired.proofs.pair.Blobs.{lasting_none}
-use Rattle.paired.proofs.pair.Facts.{Parts, facts_of, good_of, holding_of, lasting_held, unvalued, values_last}
+use Rattle.paired.proofs.next.Went.{none_as}
 use Rattle.paired.proofs.pair.Moments.{index_phase, keeping_of, no_index}
-use Rattle.paired.proofs.pair.Synced.{Here}
 use Rattle.blob_device.proofs.general.Options.{none_or_value, some_of, some_there}
 
 module _ {F S : Type 0} {gs : _} (g : buffer.Ghosts (PageBlob S gs)) (gives : F → Setting) {takes : WriteFactory → Setting} (told : Type 0) (run : Run F (PageBlob S gs)) (pages_are : ArePages g run.layout.seal)

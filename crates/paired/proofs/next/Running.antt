@@ -17,7 +17,10 @@ use Rattle.section_manager.specs.Sections.{section_key, key_of, IsHeld}
 use Rattle.section_manager.specs.Setting.{Setting}
 use Rattle.segments.specs.FixedLists.{section_size, size_held}
 use Rattle.segments.specs.FixedReplay.{Walk, IsAhead, IsIn, IsWalk, Replaying, kept_of, kept_bytes}
-use Rattle.segments.proofs.adding.WriteLemmas.{ArePages}
+use Rattle.paired.specs.lemmas.Glob.{buffers}
+use Rattle.paired.specs.lemmas.next.Went.{Went}
+use Rattle.paired.specs.lemmas.pair.Synced.{Here}
+use Rattle.segments.specs.lemmas.adding.Write.{ArePages}
 use Rattle.meta_store.specs.Blobs.{blob_of}
 use Rattle.meta_store.specs.declared.error.Side.{Side}
 use Rattle.paired.specs.glob.Sections.{IsGlob}
@@ -27,18 +30,14 @@ use Rattle.paired.specs.OpeningRefusing.{place_end}
 use Rattle.paired.specs.Pair.{AreWhole, AreMarkers, HasSettled, synced_length}
 use Rattle.paired.specs.Records.{records}
 use Rattle.paired.specs.Replaying.{Limits, Run, pair_of, HasLostNone, marker, records_over, IsChecked, IsVouchedFor, IsOpeningRun, IsLiveRun, IsRun}
-use Rattle.paired.proofs.GlobLemmas.{buffers}
-use Rattle.paired.proofs.next.Went.{Went, none_as}
+use Rattle.paired.proofs.next.Went.{none_as}
 use Rattle.paired.proofs.pair.Removing.{opened_stays}
 use Rattle.paired.proofs.pair.Sections.{other_partition}
-use Rattle.paired.proofs.pair.Synced.{Here, store_stays}
+use Rattle.paired.proofs.pair.Synced.{store_stays}
 use Rattle.paired.specs.lemmas.Records.{records-prefix, records-enough, length-records}
 use Rattle.meta_store.specs.Store.{contents_of}
 use Rattle.blob_device.proofs.general.Options.{none_or_value, some_of, some_there}
-
--- the run with another walk, other ends, and another end of its errors
-abbrev pub moved : {F B : Type 0} → Run F B → Walk F B → Limits → Option ℕ → Bool → Run F B
-moved run w ends ended failed = record run { walk = w; ends = ends; ended_section = ended; failed = failed }
+use Rattle.paired.specs.lemmas.next.Running.{moved}
 
 -- A blob that has settled, and was left as a replay may leave it, has the records that it had.
 pub rest_records : (seal : List ℕ → ℕ) (P size floor : ℕ) (from b : Blob) → 1 ≤ size → IsAtRest b → MayLeave b (reads b)

@@ -17,7 +17,8 @@ use Rattle.section_manager.specs.Setting.{Setting}
 use Rattle.segments.specs.FixedReading.{IsBelowFloor, HasNotRead}
 use Rattle.segments.specs.FixedReplay.{Walk, IsAhead, IsIn, IsLeft, IsDrained, SameWalk, KeepsSections, KeepsFloors, KeepsBytes, KeepsItems, IsWalk, Gives, Refuses, Stops, IsCutting, Replaying, LeavesNoMore, EndsBelow, FindsDamage, kept_bytes}
 use Rattle.segments.specs.FixedStepping.{way_of}
-use Rattle.paired.proofs.next.Went.{Went, Goes, same_bool}
+use Rattle.paired.proofs.next.Went.{same_bool}
+use Rattle.paired.specs.lemmas.next.Went.{Goes, Went}
 
 module _ {F S : Type 0} {gs : _} (seal : List ℕ → ℕ) (size : ℕ) (g : buffer.Ghosts (PageBlob S gs)) (gives : F → Setting) (told : Type 0) where
   -- without an error

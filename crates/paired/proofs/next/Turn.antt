@@ -20,7 +20,11 @@ use Rattle.section_manager.specs.Sections.{section_key, key_of, IsHeld}
 use Rattle.section_manager.specs.Setting.{Setting}
 use Rattle.section_manager.specs.lemmas.Keys.{key_injective}
 use Rattle.segments.specs.FixedReplay.{Walk, IsLeft, IsWalk, Gives, Stops, kept_of, kept_bytes}
-use Rattle.segments.proofs.adding.WriteLemmas.{ArePages}
+use Rattle.paired.specs.lemmas.Glob.{buffers}
+use Rattle.paired.specs.lemmas.next.Running.{moved}
+use Rattle.paired.specs.lemmas.next.Went.{Went, walk_kept, went_still}
+use Rattle.paired.specs.lemmas.pair.Synced.{Here}
+use Rattle.segments.specs.lemmas.adding.Write.{ArePages}
 use Rattle.meta_store.specs.Blobs.{blob_of}
 use Rattle.meta_store.specs.declared.error.Side.{Side}
 use Rattle.paired.specs.Crashes.{IsIndexOf, IsValuesOf}
@@ -29,14 +33,12 @@ use Rattle.paired.specs.glob.Sections as glob
 use Rattle.paired.specs.Places.{last_end}
 use Rattle.paired.specs.Records.{records, is_sound}
 use Rattle.paired.specs.Replaying.{Limits, Run, pair_of, HasFailed as HasErred, marker, records_over, is_sound_over, IsUnbroken, IsGood, IsDue, IsChecked, IsRun, GivesRecord, LosesRecords, LeftAtMost, Sorts}
-use Rattle.paired.proofs.GlobLemmas.{buffers}
 use Rattle.paired.proofs.next.Images.{others_end}
-use Rattle.paired.proofs.next.Running.{moved, records_held, run_after}
+use Rattle.paired.proofs.next.Running.{records_held, run_after}
 use Rattle.paired.proofs.next.Says.{Says, went_of, failed_later, known_later}
-use Rattle.paired.proofs.next.Went.{Went, went_still, walk_kept, none_as}
+use Rattle.paired.proofs.next.Went.{none_as}
 use Rattle.paired.proofs.pair.Moments.{no_index}
 use Rattle.paired.proofs.pair.Sections.{glob_kept}
-use Rattle.paired.proofs.pair.Synced.{Here}
 use Rattle.paired.specs.lemmas.Records.{length-records}
 use Rattle.paired.proofs.ReplayLemmas.{Turns, given_stay, due_after, due_skipped, due_after_stop, due_after_check, end_sorted, end_stopped, end_checked}
 use Rattle.blob_device.proofs.general.Options.{none_in, none_or_value, some_there}

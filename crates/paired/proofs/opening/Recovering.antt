@@ -10,7 +10,7 @@ use Rattle.paired.specs.Kept.{Layout, Markers, kept_by}
 use Rattle.paired.specs.Opening.{as_read, MayBeOpened, Relation, UpTo, IsUpTo, KeepsBy, KeepsAllBy, RecallsAloneBy}
 use Rattle.paired.specs.Openings.{Recovers, committed}
 use Rattle.paired.specs.Records.{Entry}
-use Rattle.paired.proofs.opening.Laws.{nothing_pending, recalls_all_by}
+use Rattle.paired.specs.lemmas.opening.Laws.{nothing_pending, recalls_all_by}
 
 -- A call that recalls at each moment recovers, whatever it may touch.
 pub recovers : (l : Layout) (Rel : Relation) (MayTouch : Key → Type 0) (old new : Timeline) → ((k : Key) → AbsentIsNothing (disk old k))

@@ -10,7 +10,8 @@ use Rattle.sealed_pages.specs.Buffer.{bytes_of, size_of}
 use Rattle.sealed_pages.specs.SealedPrefix.{adopted_size}
 use Rattle.sealed_pages.specs.Shown.{shown}
 use Rattle.sealed_pages.specs.View.{view}
-use Rattle.sealed_pages.proofs.adopted.Adopt.{length-data_from}
+use Rattle.paired.specs.lemmas.opening.Start.{AlikeImage, kept_alike}
+use Rattle.sealed_pages.specs.lemmas.adopted.Adopt.{length-data_from}
 use Rattle.section_manager.specs.declared.buffer.SectionBuffer as buffer
 use Rattle.section_manager.specs.declared.unsealed.WriteFactory.{WriteFactory}
 use Rattle.section_manager.specs.Sealed.{adopted_bytes}
@@ -29,7 +30,6 @@ use Rattle.paired.specs.Opening.{as_read, IsLawful}
 use Rattle.paired.specs.OpeningFound.{HasFound}
 use Rattle.paired.specs.OpeningRefusing.{EndsWithin, IsProved}
 use Rattle.paired.specs.Replaying.{Run, IsOpeningRun, marker}
-use Rattle.paired.proofs.opening.Start.{AlikeImage, kept_alike}
 use Rattle.paired.proofs.opening.StartRun.{all_due, floor_marker, marker_proved, none_checked, size_counted, vouched}
 use Rattle.blob_device.proofs.general.Options.{none_or_value}
 

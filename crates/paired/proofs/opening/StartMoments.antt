@@ -20,8 +20,8 @@ use Rattle.paired.specs.Crashes.{IsOwn}
 use Rattle.paired.specs.Kept.{Layout, Markers}
 use Rattle.paired.specs.Opening.{as_read, IsLawful, MayBeOpened, OnlyOpens, RecallsAlone}
 use Rattle.paired.specs.Pair.{AreApart}
-use Rattle.paired.proofs.opening.Start.{opening_recalls, opening_stays}
-use Rattle.meta_store.proofs.Reopening.{IsPromised}
+use Rattle.meta_store.specs.lemmas.Reopening.{IsPromised}
+use Rattle.paired.specs.lemmas.opening.Start.{opening_recalls, opening_stays}
 use Rattle.meta_store.specs.declared.copy.Contents.{Contents}
 
 module _ (l : Layout) (apart : AreApart l) where

@@ -1,65 +1,35 @@
 -- Why an opening refuses, against a lawful image: the last record below a marker, and no marker of a lawful image is refused.
-use Rattle.std.specs.Prelude.{◌≡◌, ◌⊎◌, ℕ, zero, suc, ◌+◌, ◌-◌, ◌*◌, ◌/◌, ◌%◌, ◌^◌, ◌<◌, ◌≤◌, cond, Bool, true, false, List, [], length, take, get_or, IsTrue, IsSome, IfSome, Option, None, Some, unwrap_or}
-use Rattle.std.proofs.Common.{inl, inr, refl, sym, ◌∙◌, ap, subst, arith, length-take-le}
+use Rattle.std.specs.Prelude.{◌≡◌, ◌⊎◌, ℕ, ◌+◌, ◌-◌, ◌*◌, ◌%◌, ◌^◌, ◌<◌, ◌≤◌, cond, Bool, true, false, List, [], length, take, get_or, IsTrue, IsSome, IfSome, Option, None, Some, unwrap_or}
+use Rattle.std.proofs.Common.{inl, inr, refl, ◌∙◌, ap, subst, arith, length-take-le}
 use Rattle.std.specs.Int.{w64, to_be_bytes}
 use Rattle.std.specs.List.{AllByRecursion}
-use Rattle.std.proofs.lemmas.List.{take_all, get_or-take}
-use Rattle.std.proofs.lemmas.Nat.{le-div, mul-le}
-use Rattle.std.proofs.Math.Nat.{div-mul-le_self}
+use Rattle.std.proofs.lemmas.List.{get_or-take}
 use Rattle.blob_device.specs.Disk.{Key, Blob, Disk, reads}
 use Rattle.blob_device.specs.Opened.{Opened, OpenedList}
 use Rattle.sealed_pages.specs.SealedPrefix.{sealed_prefix, adopted_size, data_from, pages_in}
 use Rattle.sealed_pages.specs.Slots.{best_slot}
 use Rattle.sealed_pages.specs.View.{view}
-use Rattle.sealed_pages.proofs.adopted.Adopt.{best_length, length-data_from}
-use Rattle.sealed_pages.proofs.looking.Looking.{page_places}
-use Rattle.sealed_pages.proofs.Reaching.{prefix_size, size_at_most}
-use Rattle.sealed_pages.proofs.slots.SlotLemmas.{slot_length-le, slot_stands, times_page}
+use Rattle.paired.specs.lemmas.Boundary.{content_there}
+use Rattle.paired.specs.lemmas.Kept.{EndsBy, follow_ends, sound_parts}
+use Rattle.paired.specs.lemmas.opening.Start.{index_reads}
+use Rattle.sealed_pages.specs.lemmas.Reaching.{prefix_size, size_at_most}
+use Rattle.sealed_pages.specs.lemmas.adopted.Adopt.{best_length}
+use Rattle.sealed_pages.specs.lemmas.slots.Slot.{slot_length-le, slot_stands, times_page}
+use Rattle.segments.specs.lemmas.replay.Kept.{prefix_data}
 use Rattle.value_codec.specs.declared.codec.Error as codec
 use Rattle.section_manager.specs.declared.journal.Damage.{Damage}
 use Rattle.section_manager.specs.Sections.{section_key}
 use Rattle.segments.specs.FixedFloors.{IsRefused}
-use Rattle.segments.specs.FixedItems.{item_count, item_at}
-use Rattle.segments.proofs.replay.Kept.{item_kept, prefix_data}
 use Rattle.paired.specs.Kept.{Layout, Markers, IsMarked, content_at, stored_records, is_sound_in}
 use Rattle.paired.specs.Opening.{as_read, IsLawful, OnlyOpens}
 use Rattle.paired.specs.OpeningRefusing.{AreSpellings, IsCutOff, IsLost, IsOutside, IsUnreadable, last_of}
 use Rattle.paired.specs.Pair.{AreApart}
 use Rattle.paired.specs.Places.{end_of}
-use Rattle.paired.specs.Records.{each_below, records}
-use Rattle.paired.proofs.BoundaryLemmas.{content_there}
-use Rattle.paired.proofs.KeptLemmas.{EndsBy, follow_ends, sound_parts}
-use Rattle.paired.proofs.opening.Start.{index_reads}
-use Rattle.paired.specs.lemmas.Records.{length-records}
-use Rattle.blob_device.proofs.general.Numbers.{times_next}
 use Rattle.blob_device.proofs.general.Options.{value_of}
 use Rattle.blob_device.proofs.general.Lists.{all_at}
+use Rattle.paired.specs.lemmas.opening.StartRefusals.{last_is_record, records_end, sealed_small}
 
 -- ---- the last record
-each_at : {X : Type 0} (x : X) (n : ℕ) (f : ℕ → X) (i : ℕ) → i < n → get_or (each_below n f) i x ≡ f i
-each_at x zero f i lt = absurd (omega (arith, lt))
-each_at x (suc n) f zero lt = refl
-each_at x (suc n) f (suc i) lt = each_at x n (λ j. f (j + 1)) i (omega (arith, lt)) ∙ (let e : i + 1 ≡ suc i = omega arith in ap f e)
-
--- so many records end by the length of the bytes
-pub records_end : (size n : ℕ) (bytes : List ℕ) → n ≤ length (records size bytes) → n * size ≤ length bytes
-records_end size n bytes le =
-    let few : n ≤ length bytes / size = omega (arith, le, length-records size bytes) in
-    omega (arith, mul-le n size (length bytes / size) size few (omega arith), div-mul-le_self (length bytes) size)
-
--- the last of n records, of bytes that stand in a blob from its start on, is what stands at its place
-pub last_is_record : (seal : List ℕ → ℕ) (P : ℕ) (content bytes : List ℕ) (size n : ℕ) → 1 ≤ P → 1 ≤ size → bytes ≡ data_from P (view content) 0 (length bytes) → 0 < n → n * size ≤ length bytes
-    → get_or (records size bytes) (n - 1) [] ≡ data_from P (view content) ((n - 1) * size) size
-last_is_record seal P content bytes size n pos some stands more fits =
-    let at : ℕ = (n - 1) * size in
-    let item : List ℕ = data_from P (view content) at size in
-    let long : length item ≡ size = length-data_from P (view content) size at in
-    let next : n ≡ (n - 1) + 1 = omega (arith, more) in
-    let ends : at + size ≡ n * size = sym (times_next (n - 1) size) ∙ sym (ap (λ (k : ℕ). k * size) next) in
-    let here : n - 1 < length bytes / size = omega (arith, more, le-div n (length bytes) size (omega (arith, some)) fits) in
-    each_at [] (item_count size bytes) (item_at size bytes) (n - 1) here
-    ∙ sym (item_kept seal P content pos bytes stands size (n - 1) at item (ap (data_from P (view content) at) (sym long)) refl (omega (arith, long)) (omega (arith, long, ends, fits)))
-    ∙ take_all size item (omega (arith, long))
 
 -- ---- lengths
 pub adopted_within : (seal : List ℕ → ℕ) (P : ℕ) (c : List ℕ) → adopted_size seal P c ≤ length c
@@ -70,16 +40,6 @@ adopted_within seal P c = size_at_most seal P (length c) c (pages_in P c) (λ k 
 
 pub sealed_within : (seal : List ℕ → ℕ) (P : ℕ) (c : List ℕ) → length (sealed_prefix seal P c) ≤ length c
 sealed_within seal P c = omega (arith, prefix_size seal P c, adopted_within seal P c)
-
--- a u64 counts the bytes that adopting finds, of a blob of any length
-adopted_small : (seal : List ℕ → ℕ) (P : ℕ) (c : List ℕ) → adopted_size seal P c ≤ 2 ^ 64 - 1
-adopted_small seal P c = size_at_most seal P (2 ^ 64 - 1) c (pages_in P c) (λ k some.
-    let is = best_length seal P c k in
-    let b : Bool = best_slot seal P c k in
-    omega (arith, is, slot_length-le seal P c k b, page_places seal P c k some, times_page P k))
-
-pub sealed_small : (seal : List ℕ → ℕ) (P : ℕ) (c : List ℕ) → length (sealed_prefix seal P c) < 2 ^ 64
-sealed_small seal P c = omega (arith, prefix_size seal P c, adopted_small seal P c)
 
 -- a blob that reads as something is there
 reads_there : (b : Blob) → IsSome (reads b) → b.there ≡ true

@@ -10,15 +10,18 @@ use Rattle.sealed_pages.specs.Shown.{shown}
 use Rattle.sealed_pages.specs.SealedPrefix.{sealed_prefix, adopted_size, data_from}
 use Rattle.sealed_pages.specs.Reads.{IsCovered}
 use Rattle.sealed_pages.specs.View.{view}
-use Rattle.sealed_pages.proofs.adopted.Adopt.{length-data_from}
-use Rattle.sealed_pages.proofs.slots.SlotLemmas.{times_page}
+use Rattle.paired.specs.lemmas.opening.Ends.{marked_is}
+use Rattle.paired.specs.lemmas.opening.StartRefusals.{last_is_record, records_end}
+use Rattle.paired.specs.lemmas.pair.Synced.{unmarked_zero}
+use Rattle.sealed_pages.specs.lemmas.adopted.Adopt.{length-data_from}
+use Rattle.sealed_pages.specs.lemmas.slots.Slot.{times_page}
+use Rattle.segments.specs.lemmas.replay.Kept.{prefix_data}
 use Rattle.value_codec.specs.declared.codec.Error as codec
 use Rattle.section_manager.specs.declared.journal.Damage.{Damage}
 use Rattle.section_manager.specs.Sealed.{adopted_bytes}
 use Rattle.section_manager.specs.Sections.{section_key, key_of, IsHeld}
 use Rattle.segments.specs.FixedFloors.{IsRefused}
 use Rattle.segments.specs.FixedReplay.{Begins, IsLeft, kept_bytes, kept_of}
-use Rattle.segments.proofs.replay.Kept.{prefix_data}
 use Rattle.paired.specs.glob.Sections as glob
 use Rattle.paired.specs.Kept.{Layout, MarkerMap, IsMarked, marker_of, content_at}
 use Rattle.paired.specs.Opening.{as_read}
@@ -26,9 +29,6 @@ use Rattle.paired.specs.OpeningRefusing.{EndsWithin, IsLost, IsOutside, IsProved
 use Rattle.paired.specs.Places.{last_end}
 use Rattle.paired.specs.Records.{unbroken_prefix}
 use Rattle.paired.specs.Replaying.{Run, HasGiven, IsChecked, IsDue, IsVouchedFor, is_sound_over, marker, records_given, records_over}
-use Rattle.paired.proofs.opening.Ends.{marked_is}
-use Rattle.paired.proofs.opening.StartRefusals.{last_is_record, records_end}
-use Rattle.paired.proofs.pair.Synced.{unmarked_zero}
 use Rattle.paired.specs.lemmas.Records.{prefix-take, length-records}
 use Rattle.blob_device.proofs.general.Options.{none_or_value}
 

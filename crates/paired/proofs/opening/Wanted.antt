@@ -8,9 +8,10 @@ use Rattle.paired.specs.Kept.{Layout, Markers, marker_of, content_at, stored_rec
 use Rattle.paired.specs.Opening.{IsLawful}
 use Rattle.paired.specs.Openings.{some_sound, up_to_last, within, lowered, inferred, inferred_at_most, checkpointed, tracked, tracked_at_most, KeepsFirst}
 use Rattle.paired.specs.Records.{unbroken_prefix}
-use Rattle.paired.proofs.KeptLemmas.{stored_entries}
+use Rattle.paired.specs.lemmas.Kept.{stored_entries}
+use Rattle.paired.specs.lemmas.opening.Ends.{prefix_lower, sound_below}
 use Rattle.paired.specs.lemmas.Records.{prefix-take}
-use Rattle.paired.proofs.opening.Ends.{prefix_lower, prefix_of_first, sound_below}
+use Rattle.paired.proofs.opening.Ends.{prefix_of_first}
 use Rattle.blob_device.proofs.general.Lists.{all_take}
 
 -- ---- the first ones

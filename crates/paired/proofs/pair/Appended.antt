@@ -15,7 +15,13 @@ use Rattle.sealed_pages.specs.Flushing.{Alone}
 use Rattle.sealed_pages.specs.declared.page_blob.PageBlob.{PageBlob}
 use Rattle.sealed_pages.specs.declared.write_blob.WriteBlob.{WriteBlob}
 use Rattle.sealed_pages.specs.Shown.{shown}
-use Rattle.sealed_pages.proofs.slots.PageCalls.{only_weaker}
+use Rattle.meta_store.specs.lemmas.Uses.{stands_same}
+use Rattle.paired.specs.lemmas.Glob.{buffers, glob_stays, section_counted}
+use Rattle.paired.specs.lemmas.pair.Appending.{append_good, append_list, append_more, append_prefix, append_tight, appended}
+use Rattle.paired.specs.lemmas.pair.Blobs.{values_of}
+use Rattle.paired.specs.lemmas.pair.Facts.{Parts, facts_of, few_of, glob_outlasts, good_of, holding_of, no_records_left, not_there, proven_of, settled_held, tight_of, unheld, values_within, whole_of}
+use Rattle.sealed_pages.specs.lemmas.slots.PageCalls.{only_weaker}
+use Rattle.segments.specs.lemmas.adding.Write.{ArePages}
 use Rattle.section_manager.specs.declared.buffer.SectionBuffer as buffer
 use Rattle.section_manager.specs.declared.unsealed.WriteFactory.{WriteFactory}
 use Rattle.section_manager.specs.Entries.{OnlyOwnEntry}
@@ -27,11 +33,9 @@ use Rattle.section_manager.specs.lemmas.Keys.{keys_differ}
 use Rattle.segments.specs.FixedLasting.{IsBeginning as IsBeginningIndex}
 use Rattle.segments.specs.FixedLists.{Lists, IsJournal}
 use Rattle.segments.specs.FixedLists as fixed
-use Rattle.segments.proofs.adding.WriteLemmas.{ArePages}
 use Rattle.meta_store.specs.declared.error.Side.{Side}
 use Rattle.meta_store.specs.declared.error.Side.TheVariants.{Left, Right}
 use Rattle.meta_store.specs.Blobs.{blob_of}
-use Rattle.meta_store.proofs.Uses.{stands_same}
 use Rattle.paired.specs.Crashes.{IsIndexOf, IsValuesOf, InOrder, Keeping}
 use Rattle.paired.specs.Frames.{frame}
 use Rattle.paired.specs.glob.Lasting.{Outlasts, IsBeginning, settled_bytes}
@@ -44,11 +48,9 @@ use Rattle.paired.specs.Places.{Follow, end_of}
 use Rattle.paired.specs.Records.{Entry, records, entries_of, is_sound}
 use Rattle.paired.proofs.pair.Stays.{journal_stays}
 use Rattle.paired.proofs.CallLemmas.{held_some}
-use Rattle.paired.proofs.GlobLemmas.{buffers, glob_stays, section_counted}
-use Rattle.paired.proofs.pair.Appending.{appended, append_good, append_tight, append_list, append_prefix, append_more, lengthened, lengthen_good, lengthen_list, lengthen_more}
-use Rattle.paired.proofs.pair.Blobs.{values_of, opening_bare}
+use Rattle.paired.proofs.pair.Appending.{lengthened, lengthen_good, lengthen_list, lengthen_more}
+use Rattle.paired.proofs.pair.Blobs.{opening_bare}
 use Rattle.paired.proofs.pair.Calls.{append_values, append_held, append_made}
-use Rattle.paired.proofs.pair.Facts.{proven_of, Parts, facts_of, settled_held, not_there, unheld, values_within, good_of, whole_of, few_of, tight_of, no_records_left, holding_of, glob_outlasts}
 use Rattle.paired.proofs.pair.Moments.{Stays, keeping_of}
 use Rattle.meta_store.specs.Store.{contents_of}
 use Rattle.blob_device.proofs.general.Options.{none_or_value}

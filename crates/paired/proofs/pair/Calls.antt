@@ -12,8 +12,9 @@ use Rattle.paired.specs.Records.{Entry, records}
 use Rattle.paired.specs.Kept.{Layout, Markers, IsMarked}
 use Rattle.paired.specs.Crashes.{IsIndexOf, IsValuesOf, IsCopy, Keeping}
 use Rattle.paired.specs.Holding.{Facts, list_in, AreGood, IsLasting, LeavesNoRecords, ValuesStand, AreTrue, Holding}
-use Rattle.paired.proofs.pair.Blobs.{lasting_none}
-use Rattle.paired.proofs.pair.Holding.{IsMore, holding_more, no_bytes}
+use Rattle.paired.specs.lemmas.pair.Blobs.{lasting_none}
+use Rattle.paired.specs.lemmas.pair.Holding.{IsMore, no_bytes}
+use Rattle.paired.proofs.pair.Holding.{holding_more}
 use Rattle.paired.proofs.pair.Moments.{Stays, this_or_other, values_phase, index_phase, making_phase, removing_phase, copies_phase, keeping_of, keeping_then}
 
 -- A pair of which these facts are known, to one of whose sections something is added, and behind its list these entries, or a prefix of them.

@@ -1,7 +1,6 @@
 -- What the calls of a pair answer where one of their parts failed.
 use Rattle.std.proofs.Common.{◌≡◌, ◌⊎◌, inl, inr, ℕ, ◌<◌, ◌≤◌, Bool, true, false, Result, Ok, Err, OnErr, ap, arith}
 use Rattle.std.specs.Result.{IsErrOf}
-use Rattle.blob_device.specs.Counts.{Rose}
 use Rattle.blob_device.specs.declared.runtime.RError.TheVariants.{Fault}
 use Rattle.meta_store.specs.Calls.{GaveUp}
 use Rattle.meta_store.specs.declared.error.Error as meta
@@ -13,10 +12,7 @@ use Rattle.section_manager.specs.declared.journal.Error.TheVariants.{Full}
 use Rattle.section_manager.specs.Refusing.{HasFailed, IsPruned}
 use Rattle.paired.specs.PairRefusing.{HasLostMarkers}
 use Rattle.blob_device.proofs.general.Results.{err_with}
-
--- a count that rose since a later moment rose since an earlier one
-pub rose_before : (a b c : ℕ) → a ≤ b → Rose b c → Rose a c
-rose_before a b c le rose = omega (arith, le, rose)
+use Rattle.paired.specs.lemmas.pair.Failing.{rose_before}
 
 module _ {T : Type 0} where
   -- why the markers did not move

@@ -27,10 +27,10 @@ use Rattle.paired.specs.Crashes.{IsBlobOf, IsCopy}
 use Rattle.paired.specs.Pair.{Pair, AreApart}
 use Rattle.paired.specs.Kept.{IsMarked, marker_of}
 use Rattle.paired.specs.PairFaults.{AreAtRest, FaultsInOrder, StopsAtMarkers, AreDropped}
-use Rattle.paired.proofs.GlobLemmas.{buffers}
+use Rattle.paired.specs.lemmas.Glob.{buffers}
+use Rattle.paired.specs.lemmas.pair.Synced.{Here}
 use Rattle.paired.proofs.pair.Removed.{stands_stays}
 use Rattle.paired.proofs.pair.Sections.{other_partition, IndexSynced, ValuesSynced}
-use Rattle.paired.proofs.pair.Synced.{Here}
 use Rattle.meta_store.specs.declared.copy.Contents.{Contents}
 use Rattle.blob_device.proofs.general.Options.{none_or_value, value_of}
 

@@ -26,13 +26,14 @@ use Rattle.paired.specs.Pair.{Pair, IsPair, IsSoundOn, IsMoving, list_of, length
 use Rattle.paired.specs.PairSync.{MovesMarkers}
 use Rattle.paired.specs.Places.{Follow, end_of}
 use Rattle.paired.specs.Records.{records, entries_of, is_sound}
-use Rattle.paired.proofs.GlobLemmas.{buffers}
+use Rattle.paired.specs.lemmas.Glob.{buffers}
+use Rattle.paired.specs.lemmas.pair.Facts.{Parts, are_true, facts_of, good_of, holding_of, index_lasts}
+use Rattle.paired.specs.lemmas.pair.Holding.{leaves_of}
+use Rattle.paired.specs.lemmas.pair.Synced.{Here}
 use Rattle.paired.proofs.pair.Calls.{sync_markers}
-use Rattle.paired.proofs.pair.Facts.{facts_of, Parts, good_of, holding_of, index_lasts, are_true}
-use Rattle.paired.proofs.pair.Holding.{leaves_of}
 use Rattle.paired.proofs.pair.Stays.{journal_stays}
 use Rattle.paired.proofs.pair.Sections.{glob_kept}
-use Rattle.paired.proofs.pair.Synced.{Here, made, pair_as}
+use Rattle.paired.proofs.pair.Synced.{made, pair_as}
 use Rattle.blob_device.proofs.general.Options.{none_or_value}
 
 -- ---- a number below a bound

@@ -15,8 +15,10 @@ use Rattle.paired.specs.Records.{Entry}
 use Rattle.paired.specs.Kept.{Layout, Markers, IsMarked}
 use Rattle.paired.specs.Crashes.{IsIndexOf, IsValuesOf, IsCopy, LeavesAlone, Keeping}
 use Rattle.paired.specs.Holding.{Facts, list_in, AreGood, IsLasting, IndexStands, LeavesNoRecords, ValuesStand, SectionStands, AreTrue, Holding}
-use Rattle.paired.proofs.pair.Blobs.{lasting_fades, going_fades, going_bare, going_none}
-use Rattle.paired.proofs.pair.Holding.{SameBlobs, StandsNow, holding_on, holding_marked, leaves_of, leaves_list, no_bytes}
+use Rattle.paired.proofs.pair.Blobs.{going_bare, going_none}
+use Rattle.paired.proofs.pair.Holding.{SameBlobs, StandsNow, holding_on, holding_marked, leaves_list}
+use Rattle.paired.specs.lemmas.pair.Blobs.{going_fades, lasting_fades}
+use Rattle.paired.specs.lemmas.pair.Holding.{leaves_of, no_bytes}
 
 module _ (l : Layout) (facts : ℕ → Facts) (Gone : ℕ → Type 0) (one other : Markers) (from d : Disk) (holding : Holding l facts Gone one other from)
     (copies : (side : Side) → d (blob_of l.metadata side) ≡ from (blob_of l.metadata side)) where

@@ -14,7 +14,11 @@ use Rattle.section_manager.specs.Lasting.{IsGoing, Going, Removing, EntriesLeave
 use Rattle.section_manager.specs.Sections.{Sections, section_key, key_of, IsHeld, IsKnown, IsGone, IsKeyOf, IsOver}
 use Rattle.section_manager.specs.Setting.{Setting}
 use Rattle.section_manager.specs.lemmas.Keys.{key_injective}
-use Rattle.section_manager.proofs.sections.RemoveLemmas.{gone_unknown}
+use Rattle.meta_store.specs.lemmas.Sides.{sides_apart}
+use Rattle.meta_store.specs.lemmas.Syncing.{stands_keeps}
+use Rattle.paired.specs.lemmas.Glob.{buffers}
+use Rattle.paired.specs.lemmas.pair.Facts.{Parts, facts_of, good_of, holding_of, proven_of}
+use Rattle.section_manager.specs.lemmas.sections.Remove.{gone_unknown}
 use Rattle.segments.specs.FixedLists.{Lists}
 use Rattle.value_codec.specs.declared.key.Key8.{Key8}
 use Rattle.meta_store.specs.declared.error.Side.{Side}
@@ -24,15 +28,11 @@ use Rattle.meta_store.specs.Calls.{IsOpened, OthersOpened}
 use Rattle.meta_store.specs.Crashes as metadata
 use Rattle.meta_store.specs.Removing as copies
 use Rattle.meta_store.specs.Store.{Store, Stands, contents_of, synced_store}
-use Rattle.meta_store.proofs.Sides.{sides_apart}
-use Rattle.meta_store.proofs.SyncingLemmas.{stands_keeps}
 use Rattle.paired.specs.Kept.{Layout, Markers, HasNoFloor, IsMarked}
 use Rattle.paired.specs.Crashes.{InOrder, IsCopy, IsIndexOf, IsOneOf, IsOwn, IsValuesOf, Keeping}
 use Rattle.paired.specs.Holding.{Facts, list_in, AreGood, AreTrue, Holding}
 use Rattle.paired.specs.Pair.{Pair, AreApart, IsPair, IsSoundOn, synced_length}
-use Rattle.paired.proofs.GlobLemmas.{buffers}
 use Rattle.paired.proofs.pair.Calls.{sync_markers, remove_records, remove_values}
-use Rattle.paired.proofs.pair.Facts.{proven_of, Parts, facts_of, good_of, holding_of}
 use Rattle.meta_store.specs.declared.copy.Contents.{Contents}
 use Rattle.blob_device.proofs.general.Options.{none_or_value}
 

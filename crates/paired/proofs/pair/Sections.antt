@@ -13,10 +13,10 @@ use Rattle.section_manager.specs.Setting.{Setting}
 use Rattle.section_manager.specs.lemmas.Keys.{key_injective}
 use Rattle.segments.specs.FixedLists.{Lists}
 use Rattle.segments.specs.FixedLists as fixed
-use Rattle.segments.proofs.adding.WriteLemmas.{ArePages}
+use Rattle.paired.specs.lemmas.Glob.{buffers, glob_stays}
+use Rattle.segments.specs.lemmas.adding.Write.{ArePages}
 use Rattle.paired.specs.glob.Sections.{IsGlob}
 use Rattle.paired.specs.glob.Sections as glob
-use Rattle.paired.proofs.GlobLemmas.{buffers, glob_stays}
 use Rattle.blob_device.proofs.general.Options.{none_or_value, some_same, value_of}
 
 -- a key of another partition is of none of the sections

@@ -16,7 +16,11 @@ use Rattle.section_manager.specs.unsealed.Buffer.{content_of}
 use Rattle.section_manager.specs.lemmas.Keys.{key_injective}
 use Rattle.segments.specs.FixedLasting as fixed
 use Rattle.segments.specs.FixedLists.{Lists, IsJournal}
-use Rattle.segments.proofs.adding.WriteLemmas.{ArePages}
+use Rattle.paired.specs.lemmas.Glob.{buffers}
+use Rattle.paired.specs.lemmas.pair.Blobs.{lasting_none}
+use Rattle.paired.specs.lemmas.pair.Facts.{Parts, facts_of, good_of, holding_of, lasting_held, proven_of, unvalued, values_held, values_last}
+use Rattle.paired.specs.lemmas.pair.Synced.{Here}
+use Rattle.segments.specs.lemmas.adding.Write.{ArePages}
 use Rattle.meta_store.specs.Store.{contents_of}
 use Rattle.paired.specs.Crashes.{IsIndexOf, IsValuesOf, IsBlobOf, IsCopy, IsOwn, InOrder, LeavesAlone, Keeping}
 use Rattle.paired.specs.glob.Lasting.{Outlasts}
@@ -27,13 +31,9 @@ use Rattle.paired.specs.Holding.{Facts, AreGood, IsLasting, LeavesNoRecords, Val
 use Rattle.paired.specs.Kept.{Layout, HasNoFloor}
 use Rattle.paired.specs.Pair.{Pair, AreApart, IsPair, IsSoundOn, list_of, synced_length}
 use Rattle.paired.specs.Records.{Entry, records}
-use Rattle.paired.proofs.GlobLemmas.{buffers}
-use Rattle.paired.proofs.pair.Blobs.{lasting_none}
 use Rattle.paired.proofs.pair.Calls.{sync_records, sync_values}
-use Rattle.paired.proofs.pair.Facts.{proven_of, facts_of, lasting_held, values_held, Parts, unvalued, good_of, holding_of, values_last}
 use Rattle.paired.proofs.pair.Holding.{leaves_list}
 use Rattle.paired.proofs.pair.Sections.{IndexSynced, ValuesSynced}
-use Rattle.paired.proofs.pair.Synced.{Here}
 use Rattle.blob_device.proofs.general.Options.{none_or_value, value_of}
 
 -- an unsettled section is held

@@ -1,11 +1,7 @@
 -- A pair some of whose sections were synced, first their records, then their values: it may be used, is as sound as it was, and has its lists.
-use Rattle.std.proofs.Common.{◌≡◌, ◌⊎◌, inl, inr, ℕ, ◌+◌, ◌*◌, ◌/◌, ◌^◌, ◌<◌, ◌≤◌, if◌then◌else◌, Bool, List, [], ◌∷◌, take, Option, None, Some, IsSome, unwrap_or, IsTrue, refl, sym, ◌∙◌, ap, subst, arith}
+use Rattle.std.proofs.Common.{◌≡◌, ◌⊎◌, inl, inr, ℕ, ◌+◌, ◌*◌, ◌/◌, ◌^◌, ◌<◌, ◌≤◌, List, [], ◌∷◌, take, Option, None, Some, IsSome, unwrap_or, IsTrue, refl, sym, ◌∙◌, ap, subst, arith}
 use Rattle.std.specs.Prelude.{◌↔◌, zero, suc, Ok}
-use Rattle.std.specs.Int.{w64, to_be_bytes}
 use Rattle.std.specs.List.{AllByRecursion}
-use Rattle.std.specs.Map.{lookup}
-use Rattle.std.specs.Str.{bytes_eq}
-use Rattle.std.proofs.lemmas.Bool.{cases_lt, lt-ltb, le-ltb}
 use Rattle.std.proofs.lemmas.Nat.{div_below}
 use Rattle.std.proofs.Math.Nat.{div-mul-le_self}
 use Rattle.blob_device.specs.Disk.{Key, Blob, Disk, settled_at, longest}
@@ -13,15 +9,15 @@ use Rattle.blob_device.specs.Opened.{OpenedList}
 use Rattle.sealed_pages.specs.declared.page_blob.PageBlob.{PageBlob}
 use Rattle.sealed_pages.specs.declared.write_blob.WriteBlob.{WriteBlob}
 use Rattle.section_manager.specs.declared.buffer.SectionBuffer as buffer
-use Rattle.section_manager.specs.declared.sealed.AppendFactory.{AppendFactory}
 use Rattle.section_manager.specs.declared.unsealed.WriteFactory.{WriteFactory}
 use Rattle.section_manager.specs.Sections.{Sections, section_key, key_of, IsHeld, IsKeyOf}
 use Rattle.section_manager.specs.Setting.{Setting}
 use Rattle.segments.specs.FixedLists.{Lists, IsJournal}
 use Rattle.segments.specs.FixedLists as fixed
-use Rattle.segments.proofs.adding.WriteLemmas.{ArePages}
+use Rattle.paired.specs.lemmas.Glob.{buffers}
+use Rattle.paired.specs.lemmas.Kept.{follow_least}
+use Rattle.segments.specs.lemmas.adding.Write.{ArePages}
 use Rattle.value_codec.specs.declared.key.Key8.{Key8}
-use Rattle.value_codec.specs.Keys.{key8_bytes}
 use Rattle.meta_store.specs.declared.error.Side.{Side}
 use Rattle.meta_store.specs.declared.error.Side.TheVariants.{Left, Right}
 use Rattle.meta_store.specs.Blobs.{blob_of}
@@ -32,33 +28,17 @@ use Rattle.paired.specs.glob.Sections.{IsGlob}
 use Rattle.paired.specs.glob.Sections as glob
 use Rattle.paired.specs.Places.{Follow, end_of}
 use Rattle.paired.specs.Records.{records, entries_of, is_sound}
-use Rattle.paired.specs.Kept.{Layout, MarkerMap, IsMarked, marker_of}
+use Rattle.paired.specs.Kept.{IsMarked, marker_of}
 use Rattle.paired.specs.Pair.{Pair, IsPair, IsSoundOn, list_of, length_of, synced_length}
-use Rattle.paired.specs.PairShown.{shown}
-use Rattle.paired.specs.declared.oversized.Oversized.{Oversized}
 use Rattle.paired.specs.Tracked.{Tracked}
-use Rattle.paired.proofs.GlobLemmas.{buffers}
-use Rattle.paired.proofs.KeptLemmas.{follow_least}
 use Rattle.paired.proofs.tracking.Lemmas.{Noted}
 use Rattle.paired.proofs.pair.Stays.{journal_stays}
 use Rattle.paired.proofs.pair.Sections.{other_partition, glob_kept, IndexSynced, ValuesSynced, index_blob, index_held, index_none, index_size, index_bytes, index_settled, values_held_same, values_size, values_settled}
 use Rattle.meta_store.specs.declared.copy.Contents.{Contents}
 use Rattle.blob_device.proofs.general.Options.{none_or_value, value_of}
+use Rattle.paired.specs.lemmas.pair.Synced.{Here, unmarked_zero}
 
 -- ---- markers and places
-abbrev found_for : MarkerMap → ℕ → Option ℕ
-found_for markers s = lookup (λ k. bytes_eq (key8_bytes k) (to_be_bytes w64 s)) markers
-
--- a section that has no marker counts as marked with 0
-pub unmarked_zero : (markers : MarkerMap) (s : ℕ) → ((m : ℕ) → IsMarked markers s m → ⊥) → marker_of markers s ≡ 0
-unmarked_zero markers s none = elim (cases_lt s (2 ^ 64)) [
-  | inl lt ↦ ap (λ (b : Bool). if b then unwrap_or (found_for markers s) 0 else 0) (lt-ltb s (2 ^ 64) lt) ∙ go (found_for markers s) (λ m is. none m (lt, is))
-  | inr past ↦ ap (λ (b : Bool). if b then unwrap_or (found_for markers s) 0 else 0) (le-ltb s (2 ^ 64) past)
-]
-  where
-    go : (o : Option ℕ) → ((m : ℕ) → o ≡ Some m → ⊥) → unwrap_or o 0 ≡ 0
-    go None never = refl
-    go (Some m) never = absurd (never m refl)
 
 -- the places of the first records end no later than those of all
 pub end_within : (place : List ℕ → ℕ × ℕ) (k at : ℕ) (rs : List (List ℕ)) (end : ℕ) → Follow place at rs end → end_of place at (take k rs) ≤ end
@@ -83,22 +63,6 @@ store_stays f u synced d e same stands = record {
 abbrev pub tracked_of : {F B : Type 0} → Pair F B → Tracked
 tracked_of p = record { store = p.store; trailing = p.trailing }
 
--- The parts of a pair are where its layout says, and none is where another is.
-pub record Here {F B : Type 0} (gives : F → Setting) (p : Pair F B) : Type 0 where
-  pub index : p.index.sections.partition ≡ p.layout.index
-  pub values : p.values.partition ≡ p.layout.values
-  pub store : p.store.partition ≡ p.layout.metadata
-  pub page_size : (gives p.index.sections.factory).page_size ≡ p.layout.page_size
-  pub some : 1 ≤ p.layout.record_size
-  pub marked : IsTrue p.layout.marked
-
--- how an index is kept
-abbrev pub page_setting : {S : Type 0} → AppendFactory S → Setting
-page_setting f = record { page_size = f.pages.page_size; capacity = f.write_buffer; cache_pages = f.pages.cache_pages }
-
-pub here_of : {I V S C : Type 0} {fixed codec seal : _} (place : List ℕ → ℕ × ℕ) (o : Oversized I V S C fixed codec seal) → 1 ≤ fixed.SIZE → Here page_setting (shown place o)
-here_of place o pos = record { index = refl; values = refl; store = refl; page_size = refl; some = pos; marked = refl }
-
 abbrev pub made : {F B : Type 0} → Pair F B → Lists F B → Sections WriteFactory WriteBlob → (ℕ → Option ℕ) → List ℕ → List ℕ → List ℕ → ℕ → Store Key8 ℕ → Pair F B
 made p j n t x y z k w = record { layout = record p.layout { index = x; values = y; metadata = z; page_size = k }; index = j; values = n; store = w; trailing = t }
 
@@ -109,13 +73,6 @@ pub pair_as : {F B : Type 0} (p : Pair F B) (index values metadata : List ℕ) (
 pair_as p index values metadata size j n u v t index_is values_is metadata_is size_is store_is =
     ap (λ (x : List ℕ). made p j n t x p.layout.values p.layout.metadata p.layout.page_size v) (sym index_is) ∙ ap (λ (x : List ℕ). made p j n t index x p.layout.metadata p.layout.page_size v) (sym values_is)
     ∙ ap (λ (x : List ℕ). made p j n t index values x p.layout.page_size v) (sym metadata_is) ∙ ap (λ (x : ℕ). made p j n t index values metadata x v) (sym size_is) ∙ ap (made p j n t index values metadata size) (sym store_is)
-
--- the layout of such a pair
-pub layout_as : (l : Layout) (index values metadata : List ℕ) (size : ℕ) → index ≡ l.index → values ≡ l.values → metadata ≡ l.metadata → size ≡ l.page_size
-    → record l { index = index; values = values; metadata = metadata; page_size = size } ≡ l
-layout_as l index values metadata size index_is values_is metadata_is size_is =
-    ap (λ (x : List ℕ). record l { index = x; values = values; metadata = metadata; page_size = size }) index_is ∙ ap (λ (x : List ℕ). record l { values = x; metadata = metadata; page_size = size }) values_is
-    ∙ ap (λ (x : List ℕ). record l { metadata = x; page_size = size }) metadata_is ∙ ap (λ (x : ℕ). record l { page_size = x }) size_is
 
 -- the values before their sync
 pub values_ready : {F S : Type 0} {gs : _} (g : buffer.Ghosts (PageBlob S gs)) (gives : F → Setting) {takes : WriteFactory → Setting} (told : Type 0) (p : Pair F (PageBlob S gs)) (IsNamed : ℕ → Type 0) (k : Lists F (PageBlob S gs))

@@ -1,8 +1,8 @@
 -- What the calls at the end of an opening leave of the list of opened blobs; and the replay at its end, from what the calls before say.
-use Rattle.std.proofs.Common.{◌≡◌, ◌↔◌, ◌⊎◌, inl, inr, ℕ, ◌/◌, ◌^◌, ◌<◌, ◌≤◌, unwrap_or, Bool, true, false, List, Option, None, Some, IsSome, IsTrue, refl, sym, ◌∙◌, ap, subst, arith}
+use Rattle.std.proofs.Common.{◌≡◌, ◌↔◌, ◌⊎◌, inl, inr, ℕ, ◌/◌, ◌^◌, ◌<◌, ◌≤◌, unwrap_or, Bool, false, List, Option, None, Some, IsSome, IsTrue, refl, sym, ◌∙◌, ap, subst, arith}
 use Rattle.std.specs.Prelude.{⊤}
 use Rattle.std.proofs.lemmas.Bool.{cases_Bool}
-use Rattle.blob_device.specs.Disk.{Key, Disk}
+use Rattle.blob_device.specs.Disk.{Key}
 use Rattle.blob_device.specs.Opened.{OpenedList, reads_of}
 use Rattle.blob_device.specs.Timeline.{Timeline, disk}
 use Rattle.sealed_pages.specs.declared.page_blob.PageBlob.{PageBlob}
@@ -16,36 +16,21 @@ use Rattle.section_manager.specs.lemmas.Keys.{key_injective}
 use Rattle.segments.specs.FixedLists.{Lists}
 use Rattle.segments.specs.FixedLists as fixed
 use Rattle.segments.specs.FixedReplay.{Walk, IsDrained}
-use Rattle.segments.proofs.adding.WriteLemmas.{ArePages}
-use Rattle.value_codec.specs.Keys.{key8_one}
-use Rattle.value_codec.specs.SpellingLaws.{u64_one_value}
-use Rattle.value_codec.specs.declared.seal.Seal as seal
 use Rattle.value_codec.specs.declared.key.Key8.{Key8}
 use Rattle.meta_store.specs.Store.{Store}
-use Rattle.meta_store.proofs.Uses.{IsReadable}
 use Rattle.paired.specs.Crashes.{IsOwn}
 use Rattle.paired.specs.Kept.{marker_of}
-use Rattle.paired.specs.ReplayShown.{run_of}
-use Rattle.paired.specs.Replaying.{Run, HasFailed, IsRun, pair_of}
+use Rattle.paired.specs.Replaying.{Run, pair_of}
 use Rattle.paired.specs.Tracked.{Tracked, Trails, synced_of}
-use Rattle.paired.specs.sighted.Shown.{marker_format}
-use Rattle.paired.specs.declared.oversized.replaying.Replay.{Replay}
-use Rattle.paired.proofs.GlobLemmas.{buffers}
-use Rattle.paired.proofs.pair.Synced.{Here, page_setting, made, pair_as}
-use Rattle.paired.proofs.reconcile.Resting.{index_number, values_number, index_key, values_key}
-use Rattle.paired.proofs.reconcile.Start.{Drained, GaveBack, opening, back_rests}
+use Rattle.paired.proofs.pair.Synced.{made, pair_as}
+use Rattle.paired.specs.lemmas.reconcile.Resting.{index_key, index_number, values_key, values_number}
+use Rattle.paired.specs.lemmas.reconcile.Start.{Drained, GaveBack, back_rests, opening}
 use Rattle.paired.proofs.Ends.{RecordsCut, ValuesCut, ValuesRemoved, not_of_none}
 use Rattle.paired.proofs.reconcile.Stages.{Joint}
 use Rattle.paired.proofs.reconcile.Pair.{Notes, pair_with}
 use Rattle.blob_device.proofs.general.Options.{none_or_value}
 
 -- ---- the replay at its end
-pub run_here : {I V S C : Type 0} {fixed codec seal : _} (place : List ℕ → ℕ × ℕ) (r : Replay I V S C fixed codec seal) → 1 ≤ fixed.SIZE → Here page_setting (pair_of (run_of place r))
-run_here place r pos = record { index = refl; values = refl; store = refl; page_size = refl; some = pos; marked = refl }
-
--- markers are read in one way
-pub markers_readable : {S : Type 0} (sealing : seal.Ghosts S) → IsReadable (marker_format sealing)
-markers_readable sealing = record { size = 8; sized = λ k. k.whole; one_key = key8_one; one_value = λ v w. u64_one_value v w }
 
 pub drained_of : {F B : Type 0} (w : Walk F B) → ((IsDrained w → ⊥) → ⊥) → IsDrained w
 drained_of w never = record {
@@ -55,10 +40,6 @@ drained_of w never = record {
   ];
   last = λ s has ahead. never (λ is. is.last s has ahead);
 }
-
-pub drained_from : {F S : Type 0} {gs : _} {g : buffer.Ghosts (PageBlob S gs)} {gives : F → Setting} {takes : WriteFactory → Setting} {told : Type 0} {run : Run F (PageBlob S gs)} {o : OpenedList} {d : Disk}
-    → ArePages g run.layout.seal → Here gives (pair_of run) → IsRun run g gives buffers takes told o d → run.tracked ≡ true → (HasFailed run → ⊥) → IsDrained run.walk → Drained g gives takes told run o d
-drained_from pages here over tracked unfailed drained = record { pages = pages; here = here; over = over; tracked = tracked; unfailed = unfailed; drained = drained }
 
 -- ---- what calls say, at these types
 module _ {F S : Type 0} {gs : _} {g : buffer.Ghosts (PageBlob S gs)} {gives : F → Setting} {takes : WriteFactory → Setting} {told : Type 0} {run : Run F (PageBlob S gs)} {o : OpenedList} (a : Timeline) (e : Drained g gives takes told run o (disk a)) where

@@ -30,12 +30,12 @@ use Rattle.paired.specs.Records.{records}
 use Rattle.paired.specs.Reconciling.{IsEndWithin}
 use Rattle.paired.specs.Replaying.{Run, IsVouchedFor, marker, records_over, records_given}
 use Rattle.paired.proofs.FailLemmas.{failed_as}
-use Rattle.paired.proofs.GlobLemmas.{section_counted}
-use Rattle.paired.proofs.KeptLemmas.{sound_parts}
-use Rattle.paired.proofs.opening.Ends.{marked_is, marked_or_zero}
+use Rattle.paired.specs.lemmas.Glob.{section_counted}
+use Rattle.paired.specs.lemmas.Kept.{sound_parts}
+use Rattle.paired.specs.lemmas.opening.Ends.{marked_is, marked_or_zero}
+use Rattle.paired.specs.lemmas.reconcile.Start.{Drained, GaveBack, end_of, given_all, given_good, given_to, none_left, opening, over_records, walk_unfailed}
 use Rattle.paired.proofs.pair.Failing.{failed_before}
 use Rattle.paired.specs.lemmas.Records.{last_end_at, length-records, no_end}
-use Rattle.paired.proofs.reconcile.Start.{Drained, GaveBack, opening, none_left, walk_unfailed, end_of, given_all, given_to, given_good, over_records}
 use Rattle.blob_device.proofs.general.Options.{none_or_value}
 use Rattle.blob_device.proofs.general.Results.{err_with}
 

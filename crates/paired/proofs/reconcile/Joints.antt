@@ -19,7 +19,10 @@ use Rattle.meta_store.specs.declared.error.Side.{Side}
 use Rattle.meta_store.specs.declared.error.Side.TheVariants.{Left, Right}
 use Rattle.meta_store.specs.Blobs.{blob_of}
 use Rattle.meta_store.specs.Calls.{IsOpened}
-use Rattle.meta_store.proofs.Uses.{stands_same}
+use Rattle.meta_store.specs.lemmas.Uses.{stands_same}
+use Rattle.paired.specs.lemmas.Ends.{Ends}
+use Rattle.paired.specs.lemmas.Glob.{same_bytes}
+use Rattle.paired.specs.lemmas.reconcile.Resting.{MarksRest, Resting, index_key, index_number, known_of, none_stored, values_key, values_number}
 use Rattle.paired.specs.Crashes.{IsIndexOf, IsValuesOf}
 use Rattle.paired.specs.glob.Lasting.{Cutting}
 use Rattle.paired.specs.glob.Sections.{IsGlob, IsAllSettled}
@@ -31,12 +34,10 @@ use Rattle.paired.specs.Opening.{MayBeOpened, Relation}
 use Rattle.paired.specs.Pair.{HasNoBytes}
 use Rattle.paired.specs.Reconciling.{CutTo, EndOf, Shortening}
 use Rattle.paired.specs.Records.{records}
-use Rattle.paired.proofs.GlobLemmas.{same_bytes}
 use Rattle.paired.proofs.pair.Sections.{glob_kept}
 use Rattle.paired.proofs.pair.Stays.{journal_stays}
 use Rattle.paired.specs.lemmas.Records.{length-records, records-take}
-use Rattle.paired.proofs.reconcile.Resting.{Resting, MarksRest, known_of, index_number, values_number, index_key, values_key, none_stored}
-use Rattle.paired.proofs.Ends.{Ends, Between, RecordsCut, ValuesCut, ValuesRemoved, none_of_not, not_of_none}
+use Rattle.paired.proofs.Ends.{Between, RecordsCut, ValuesCut, ValuesRemoved, none_of_not, not_of_none}
 use Rattle.paired.proofs.reconcile.Phases.{bare_of, index_cut_only, values_cut_only, values_still}
 use Rattle.blob_device.proofs.general.Numbers.{item_ends, last_place}
 use Rattle.blob_device.proofs.general.Options.{none_or_value}

@@ -14,7 +14,12 @@ use Rattle.section_manager.specs.declared.unsealed.WriteFactory.{WriteFactory}
 use Rattle.section_manager.specs.Prefixes.{IsPrefixOf}
 use Rattle.section_manager.specs.Sections.{Sections, section_key, key_of, IsHeld}
 use Rattle.section_manager.specs.Setting.{Setting}
-use Rattle.section_manager.proofs.buffers.UnsealedCalls.{prefix_itself, prefix_taken}
+use Rattle.paired.specs.lemmas.Glob.{section_counted}
+use Rattle.paired.specs.lemmas.Kept.{EndsBy, entry_same, follow_ends, settled_bytes, sound_parts, sound_settled}
+use Rattle.paired.specs.lemmas.opening.Ends.{follow_first, follow_last_end, marked_is, marked_or_zero, prefix_is_sound}
+use Rattle.paired.specs.lemmas.reconcile.Resting.{none_of, value_idle}
+use Rattle.paired.specs.lemmas.reconcile.Start.{Drained, GaveBack, end_of as ending_of, given_all, given_to, given_whole, kept_given, kept_stored, over_sound, over_stored}
+use Rattle.section_manager.specs.lemmas.buffers.UnsealedCalls.{prefix_itself}
 use Rattle.segments.specs.FixedLists.{Lists}
 use Rattle.segments.specs.FixedLists as fixed
 use Rattle.segments.specs.FixedReplay.{kept_of}
@@ -28,13 +33,8 @@ use Rattle.paired.specs.Pair.{HasNoBytes, Pair, IsSoundOn, list_of, records_of}
 use Rattle.paired.specs.Places.{Follow, end_of, last_end}
 use Rattle.paired.specs.Records.{records, is_sound, entry_of}
 use Rattle.paired.specs.Replaying.{Run, marker, records_over, records_given, is_sound_over}
-use Rattle.paired.proofs.GlobLemmas.{section_counted}
-use Rattle.paired.proofs.KeptLemmas.{EndsBy, follow_ends, sound_parts, sound_settled, settled_bytes, entry_same}
-use Rattle.paired.proofs.opening.Ends.{follow_first, follow_last_end, prefix_is_sound, marked_is, marked_or_zero}
 use Rattle.paired.proofs.pair.Synced.{end_within}
 use Rattle.paired.specs.lemmas.Records.{map-same}
-use Rattle.paired.proofs.reconcile.Resting.{value_idle, none_of}
-use Rattle.paired.proofs.reconcile.Start.{Drained, GaveBack, end_of as ending_of, given_all, given_to, given_whole, over_stored, over_sound, kept_given, kept_stored}
 use Rattle.paired.proofs.Ends.{none_of_not, not_of_none}
 use Rattle.paired.proofs.reconcile.Pair.{Reconciled, Notes, pair_with}
 use Rattle.blob_device.proofs.general.Lists.{all_by, all_with}
@@ -63,13 +63,6 @@ module _ (place : List ℕ → ℕ × ℕ) where
 -- sound ranges lie within the bytes
 pub sound_within : (seal : List ℕ → ℕ) (place : List ℕ → ℕ × ℕ) (bytes : List ℕ) (rs : List (List ℕ)) → AllByRecursion (λ r. IsTrue (is_sound seal bytes (place r))) rs → AllByRecursion (EndsBy place (length bytes)) rs
 sound_within seal place bytes rs all = all_by (λ r. IsTrue (is_sound seal bytes (place r))) (EndsBy place (length bytes)) (λ r sound. (sound_parts seal bytes (place r).0 (place r).1 sound).1) rs all
-
--- what is sound in the first bytes is sound in all
-pub sound_longer : (seal : List ℕ → ℕ) (bytes : List ℕ) (k at n : ℕ) → IsTrue (is_sound seal (take k bytes) (at, n)) → IsTrue (is_sound seal bytes (at, n))
-sound_longer seal bytes k at n sound =
-    let some : List ℕ = take k bytes in
-    sound_settled seal some bytes (length some) at n (subst (λ (c : List ℕ). IsPrefixOf c bytes) (sym (take_all (length some) some (omega arith))) (prefix_taken k bytes))
-    (omega (arith, (sound_parts seal some at n sound).1, ap length (take_all (length some) some (omega arith)))) sound
 
 module _ {F S : Type 0} {gs : _} {g : buffer.Ghosts (PageBlob S gs)} {gives : F → Setting} {takes : WriteFactory → Setting} {told : Type 0} {run : Run F (PageBlob S gs)} {o : OpenedList} (a : Timeline) (e : Drained g gives takes told run o (disk a)) (t : told)
     (j0 : Lists F (PageBlob S gs)) (back : GaveBack run j0) where

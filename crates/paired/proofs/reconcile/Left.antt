@@ -13,7 +13,7 @@ use Rattle.paired.specs.Opening.{MayBeOpened, Same, Recalls, RecallsAlone}
 use Rattle.paired.specs.Pair.{AreApart}
 use Rattle.paired.specs.Replaying.{Run, IsAllKept, IsClean}
 use Rattle.section_manager.specs.lemmas.Keys.{key_injective}
-use Rattle.paired.proofs.opening.Ends.{same_order}
+use Rattle.paired.specs.lemmas.opening.Ends.{same_order}
 use Rattle.paired.proofs.Steps.{Stay, stay_fewer, both_always, Step, no_step, step_then, step_wider, order_fewer, FirstKinds, LaterKinds, Ascends, ascend_start, ascend_then}
 use Rattle.blob_device.proofs.general.Options.{none_or_value}
 

@@ -18,7 +18,13 @@ use Rattle.section_manager.specs.Setting.{Setting}
 use Rattle.segments.specs.FixedLists.{Lists}
 use Rattle.segments.specs.FixedLists as fixed
 use Rattle.meta_store.specs.Blobs.{blob_of}
-use Rattle.meta_store.proofs.Uses.{IsReadable}
+use Rattle.meta_store.specs.lemmas.Uses.{IsReadable}
+use Rattle.paired.specs.lemmas.opening.Ends.{marked_is, marked_or_zero, prefix_sound}
+use Rattle.paired.specs.lemmas.opening.Phases.{IsBack, IsPhase, copy_or_not, markers_phase, not_index, not_values}
+use Rattle.paired.specs.lemmas.reconcile.Kept.{sound_longer}
+use Rattle.paired.specs.lemmas.reconcile.Phases.{markers_one}
+use Rattle.paired.specs.lemmas.reconcile.Resting.{known_of, rests_no_chance, stored_at, values_at}
+use Rattle.paired.specs.lemmas.reconcile.Start.{Drained, GaveBack}
 use Rattle.meta_store.specs.Store.{contents_of}
 use Rattle.paired.specs.Crashes.{IsBlobOf, IsCopy, Keeps, Keeping, LeavesAlone}
 use Rattle.paired.specs.glob.Sections as glob
@@ -29,14 +35,10 @@ use Rattle.paired.specs.Pair.{Pair, IsSafeOn, IsMoving, list_of, synced_length}
 use Rattle.paired.specs.Places.{Follow, last_end}
 use Rattle.paired.specs.Records.{records, is_sound, unbroken_prefix, entry_of}
 use Rattle.paired.specs.Replaying.{Run, marker, records_given, is_sound_over}
-use Rattle.paired.proofs.opening.Ends.{prefix_sound, marked_is, marked_or_zero}
-use Rattle.paired.proofs.opening.Phases.{copy_or_not, IsPhase, IsBack, not_index, not_values, markers_phase}
-use Rattle.paired.proofs.reconcile.Resting.{known_of, stored_at, values_at, rests_no_chance}
-use Rattle.paired.proofs.reconcile.Start.{Drained, GaveBack}
-use Rattle.paired.proofs.reconcile.Phases.{index_left, values_left, markers_one}
+use Rattle.paired.proofs.reconcile.Phases.{index_left, values_left}
 use Rattle.paired.proofs.reconcile.Left.{IsDirty, Stage}
 use Rattle.paired.proofs.reconcile.Pair.{Reconciled, Notes, pair_with, all_synced, length_given, moves}
-use Rattle.paired.proofs.reconcile.Kept.{none_given, none_in_place, in_place_from, sound_longer, sound_values, sound_pair}
+use Rattle.paired.proofs.reconcile.Kept.{none_given, none_in_place, in_place_from, sound_values, sound_pair}
 use Rattle.blob_device.proofs.general.Lists.{all_by}
 use Rattle.blob_device.proofs.general.Options.{none_or_value}
 

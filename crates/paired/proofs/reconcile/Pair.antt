@@ -14,7 +14,11 @@ use Rattle.section_manager.specs.declared.unsealed.WriteFactory.{WriteFactory}
 use Rattle.section_manager.specs.SealedLaws.{counted as index_counted}
 use Rattle.section_manager.specs.Sections.{Sections, section_key, key_of, IsHeld, SameBounds, SamePlace}
 use Rattle.section_manager.specs.Setting.{Setting}
-use Rattle.section_manager.proofs.WalkLemmas.{same_bounds}
+use Rattle.paired.specs.lemmas.Glob.{buffers}
+use Rattle.paired.specs.lemmas.opening.Ends.{marked_is, marked_or_zero}
+use Rattle.paired.specs.lemmas.reconcile.Resting.{all_of, index_number, values_key}
+use Rattle.paired.specs.lemmas.reconcile.Start.{Drained, GaveBack, ends_of, opening, walk_unfailed}
+use Rattle.section_manager.specs.lemmas.Walk.{same_bounds}
 use Rattle.segments.specs.FixedLists.{Lists}
 use Rattle.segments.specs.FixedLists as fixed
 use Rattle.meta_store.specs.Calls.{IsOpened}
@@ -24,11 +28,7 @@ use Rattle.paired.specs.OpeningFound.{CountsAll}
 use Rattle.paired.specs.Pair.{Pair, IsPair, IsMoving, length_of, synced_length}
 use Rattle.paired.specs.Places.{last_end}
 use Rattle.paired.specs.Replaying.{Run, marker, records_given}
-use Rattle.paired.proofs.GlobLemmas.{buffers}
-use Rattle.paired.proofs.opening.Ends.{marked_is, marked_or_zero}
 use Rattle.paired.specs.lemmas.Records.{length-records}
-use Rattle.paired.proofs.reconcile.Resting.{index_number, all_of, values_key}
-use Rattle.paired.proofs.reconcile.Start.{Drained, GaveBack, opening, walk_unfailed, ends_of}
 use Rattle.paired.proofs.Ends.{RecordsCut, ValuesCut, ValuesRemoved, not_of_none}
 use Rattle.paired.proofs.reconcile.Stages.{Joint}
 use Rattle.paired.proofs.reconcile.Joints.{cut_bounds, cut_opened, cut_values_same, trim_opened, removed_opened, removed_held}

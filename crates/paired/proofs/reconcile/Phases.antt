@@ -1,10 +1,10 @@
 -- What the calls at the end of an opening leave of a pair of which all has settled: each crash keeps what it kept before.
-use Rattle.std.proofs.Common.{◌≡◌, ◌⊎◌, inl, inr, ℕ, zero, suc, ◌+◌, ◌*◌, ◌/◌, ◌^◌, ◌<◌, ◌≤◌, min, not, Bool, true, false, List, [], length, take, IsTrue, Option, None, Some, IsSome, IsSomeAnd, unwrap_or, refl, sym, ◌∙◌, ap, subst, arith}
+use Rattle.std.proofs.Common.{◌≡◌, ◌⊎◌, inl, inr, ℕ, zero, suc, ◌+◌, ◌*◌, ◌/◌, ◌^◌, ◌<◌, ◌≤◌, min, not, true, false, List, [], length, take, IsTrue, Option, None, Some, IsSome, IsSomeAnd, unwrap_or, refl, sym, ◌∙◌, ap, subst, arith}
 use Rattle.std.specs.Prelude.{is_some}
 use Rattle.std.specs.Option.{option_map}
-use Rattle.std.proofs.lemmas.Bool.{cases_Bool, cases_lt}
+use Rattle.std.proofs.lemmas.Bool.{cases_lt}
 use Rattle.std.proofs.lemmas.List.{take_all}
-use Rattle.blob_device.specs.Disk.{Key, Blob, Disk, Image, IsCrashOf, MayLeave, reads}
+use Rattle.blob_device.specs.Disk.{Key, Blob, Disk, MayLeave, reads}
 use Rattle.blob_device.specs.Opened.{OpenedList}
 use Rattle.blob_device.specs.Timeline.{Each}
 use Rattle.sealed_pages.specs.Buffer.{bytes_of, size_of}
@@ -26,28 +26,26 @@ use Rattle.section_manager.specs.lemmas.Keys.{key_injective}
 use Rattle.segments.specs.FixedLists.{Lists}
 use Rattle.segments.specs.FixedLists as fixed
 use Rattle.value_codec.specs.declared.key.Key8.{Key8}
-use Rattle.meta_store.specs.declared.error.Side.{Side}
-use Rattle.meta_store.specs.declared.error.Side.TheVariants.{Left, Right}
-use Rattle.meta_store.specs.Blobs.{blob_of}
-use Rattle.meta_store.specs.Blobs as metadata
-use Rattle.meta_store.specs.Pairs.{HoldMap}
-use Rattle.meta_store.specs.Store.{Store, chosen_by, contents_of}
-use Rattle.meta_store.proofs.Uses.{IsReadable, one_map}
+use Rattle.meta_store.specs.Store.{Store}
+use Rattle.meta_store.specs.lemmas.Uses.{IsReadable}
+use Rattle.paired.specs.lemmas.Ends.{Ends}
+use Rattle.paired.specs.lemmas.opening.Phases.{IsBare, IsCut, IsPhase, IsTrimmed, records_by, values_by}
+use Rattle.paired.specs.lemmas.reconcile.Resting.{Known, Resting, absent_of, all_of, frames_at, index_absent, index_key, index_number, index_rest, index_settles, known_no_chance, none_stored, paged, reads_absent, reads_there, rest_left, rest_there, rests_no_chance, stored_at, value_idle, values_absent, values_key, values_number, values_rest}
 use Rattle.paired.specs.Crashes.{IsIndexOf, IsValuesOf}
 use Rattle.paired.specs.glob.Lasting.{Cutting, Outlasts, settled_to}
 use Rattle.paired.specs.glob.Sections as glob
-use Rattle.paired.specs.Kept.{Layout, Markers, marker_of, content_at, stored_records, is_sound_in, kept}
-use Rattle.paired.specs.Opening.{as_read, IsLawful, MayBeOpened, Relation, IsOrder, RecallsBy}
+use Rattle.paired.specs.Kept.{Layout, marker_of, content_at, stored_records, is_sound_in, kept}
+use Rattle.paired.specs.Opening.{as_read, MayBeOpened, Relation, IsOrder, RecallsBy}
 use Rattle.paired.specs.Pair.{AreApart}
 use Rattle.paired.specs.Places.{last_end}
 use Rattle.paired.specs.Reconciling.{CutTo, EndOf, Shortening}
 use Rattle.paired.specs.Records.{records, unbroken_prefix}
-use Rattle.paired.proofs.opening.Phases.{IsPhase, IsBack, IsCut, IsTrimmed, IsBare, HasMarkers, not_copy, records_by, values_by}
 use Rattle.paired.specs.lemmas.Records.{length-records}
-use Rattle.paired.proofs.reconcile.Resting.{Resting, Known, MarksRest, known_no_chance, absent_of, index_number, values_number, index_key, values_key, paged, all_of, value_idle, index_settles, index_rest, index_absent, stored_at, none_stored, values_rest, values_absent, frames_at, copy_rest, rests_no_chance, rest_left, rest_there, left_bare, reads_there, reads_absent}
-use Rattle.paired.proofs.Ends.{Bare, Bounds, CutsTo, Ends}
+use Rattle.paired.proofs.reconcile.Resting.{left_bare}
+use Rattle.paired.proofs.Ends.{Bare, Bounds, CutsTo}
 use Rattle.blob_device.proofs.general.Numbers.{item_ends}
 use Rattle.blob_device.proofs.general.Options.{none_or_value}
+use Rattle.paired.specs.lemmas.reconcile.Phases.{has_markers}
 
 -- ---- small facts
 pub some_or_none : {T : Type 0} (o : Option T) → (is_some o ≡ true) ⊎ (o ≡ None)
@@ -124,37 +122,6 @@ module _ {F S : Type 0} {gs : _} {g : buffer.Ghosts (PageBlob S gs)} {gives : F 
     }
 
 -- ---- markers that are synced
--- the copies hold the entries alone
-module _ {told : Type 0} {l : Layout} {u : Store Key8 ℕ} {d : Disk} (marks : MarksRest told l u d) (t : told) (readable : IsReadable l.markers) where
-  pub copies_hold : IsTrue l.marked → HoldMap l.markers (metadata.bytes_of (reads (d (blob_of l.metadata Left)))) (metadata.bytes_of (reads (d (blob_of l.metadata Right)))) (contents_of u)
-  copies_hold is =
-      let left : reads (d (blob_of l.metadata Left)) ≡ Some (d (blob_of l.metadata Left)).content = reads_there (d (blob_of l.metadata Left)) (rest_there (d (blob_of l.metadata Left)) (copy_rest marks t is Left)) in
-      let right : reads (d (blob_of l.metadata Right)) ≡ Some (d (blob_of l.metadata Right)).content = reads_there (d (blob_of l.metadata Right)) (rest_there (d (blob_of l.metadata Right)) (copy_rest marks t is Right)) in
-      subst (λ (x : Option (List ℕ)). HoldMap l.markers (metadata.bytes_of x) (metadata.bytes_of (reads (d (blob_of l.metadata Right)))) (contents_of u)) (sym left)
-      (subst (λ (x : Option (List ℕ)). HoldMap l.markers (d (blob_of l.metadata Left)).content (metadata.bytes_of x) (contents_of u)) (sym right)
-      (subst (λ (p : List ℕ). HoldMap l.markers (d (blob_of p Left)).content (d (blob_of p Right)).content (contents_of u)) (marks.here is)
-      (record { chosen = chosen_by u (contents_of u); reads = (marks.stands t is).pair; map = refl })))
-
-  -- so an image that has them as they read is lawful with these alone
-  pub markers_one : (old : Image) → (IsTrue l.marked → (side : Side) → old (blob_of l.metadata side) ≡ reads (d (blob_of l.metadata side))) → (markers : Markers) → IsLawful l old markers → markers ≡ contents_of u
-  markers_one old same markers lawful = elim (cases_Bool l.marked) [
-    | inr not ↦ lawful.held.none not ∙ sym (marks.none not)
-    | inl is ↦ one_map l.markers readable (metadata.bytes_of (old (blob_of l.metadata Left))) (metadata.bytes_of (old (blob_of l.metadata Right))) markers (contents_of u) (lawful.held.copies is)
-        (subst (λ (x : Option (List ℕ)). HoldMap l.markers (metadata.bytes_of x) (metadata.bytes_of (old (blob_of l.metadata Right))) (contents_of u)) (sym (same is Left))
-        (subst (λ (x : Option (List ℕ)). HoldMap l.markers (metadata.bytes_of (reads (d (blob_of l.metadata Left)))) (metadata.bytes_of x) (contents_of u)) (sym (same is Right)) (copies_hold is)))
-  ]
-
-  -- where the copies stay, each lawful image has the same markers
-  pub same_markers : (apart : AreApart l) (x : Disk) (IsChanged : ℕ → Bool) (phase : IsPhase l apart d x IsChanged false) (image old : Image) (markers : Markers) → IsCrashOf x image → IsBack l apart d x IsChanged false image old → IsLawful l old markers → markers ≡ contents_of u
-  same_markers apart x IsChanged phase image old markers crash back lawful =
-      markers_one old (λ is side.
-      back.other (blob_of l.metadata side) (not_copy l apart d x IsChanged false side refl)
-      ∙ rest_left (d (blob_of l.metadata side)) (copy_rest marks t is side) (image (blob_of l.metadata side))
-      (subst (λ (b : Blob). MayLeave b (image (blob_of l.metadata side))) (phase.others (blob_of l.metadata side) (not_copy l apart d x IsChanged false side refl)) (crash (blob_of l.metadata side)))) markers lawful
-
-  pub has_markers : (apart : AreApart l) (x : Disk) (IsChanged : ℕ → Bool) (phase : IsPhase l apart d x IsChanged false) → HasMarkers l apart d x IsChanged false phase (λ s. marker_of u.entries s)
-  has_markers apart x IsChanged phase image old markers crash back lawful s small =
-      ap (λ (ms : Markers). marker_of ms.entries s) (same_markers apart x IsChanged phase image old markers crash back lawful)
 
 module _ {F S : Type 0} {gs : _} {g : buffer.Ghosts (PageBlob S gs)} {gives : F → Setting} {takes : WriteFactory → Setting} {told : Type 0} {l : Layout}
     {j : Lists F (PageBlob S gs)} {m : Sections WriteFactory WriteBlob} {u : Store Key8 ℕ} {o : OpenedList} {d : Disk} (rests : Resting g gives takes told l j m u o d) (t : told) where

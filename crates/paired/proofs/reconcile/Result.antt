@@ -13,15 +13,15 @@ use Rattle.section_manager.specs.Sections.{Sections, IsHeld}
 use Rattle.section_manager.specs.Setting.{Setting}
 use Rattle.segments.specs.FixedLists.{Lists}
 use Rattle.meta_store.specs.Blobs.{blob_of, other_side}
-use Rattle.meta_store.proofs.Uses.{IsReadable}
+use Rattle.meta_store.specs.lemmas.Uses.{IsReadable}
+use Rattle.paired.specs.lemmas.Glob.{buffers}
+use Rattle.paired.specs.lemmas.reconcile.Start.{Drained, GaveBack}
 use Rattle.paired.specs.Crashes.{IsCopy, Keeping}
 use Rattle.paired.specs.glob.Sections.{IsAllSettled}
 use Rattle.paired.specs.Kept.{IsMarked, IsSameLayout, marker_of}
 use Rattle.paired.specs.OpeningFound.{CountsAll, HasKept}
 use Rattle.paired.specs.Pair.{Pair, IsPair, IsSoundOn, IsMoving, list_of, synced_length, IsSafeOn}
 use Rattle.paired.specs.Replaying.{Run, marker, records_given}
-use Rattle.paired.proofs.GlobLemmas.{buffers}
-use Rattle.paired.proofs.reconcile.Start.{Drained, GaveBack}
 use Rattle.paired.proofs.reconcile.Left.{Stage, newer}
 use Rattle.paired.proofs.reconcile.Pair.{Reconciled, Notes, pair_with, is_pair, length_given, moves, moves_back, counts_of}
 use Rattle.paired.proofs.reconcile.Kept.{kept_all}

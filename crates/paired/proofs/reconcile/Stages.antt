@@ -12,7 +12,10 @@ use Rattle.section_manager.specs.Setting.{Setting}
 use Rattle.section_manager.specs.lemmas.Keys.{key_injective}
 use Rattle.segments.specs.FixedLists.{Lists}
 use Rattle.segments.specs.FixedLists as fixed
-use Rattle.meta_store.proofs.Uses.{IsReadable}
+use Rattle.meta_store.specs.lemmas.Uses.{IsReadable}
+use Rattle.paired.specs.lemmas.opening.Ends.{same_order}
+use Rattle.paired.specs.lemmas.reconcile.Resting.{values_key, values_number}
+use Rattle.paired.specs.lemmas.reconcile.Start.{Drained, GaveBack, end_of, ends_of, given_to, given_whole}
 use Rattle.paired.specs.Crashes.{IsBlobOf, IsIndexOf}
 use Rattle.paired.specs.glob.Lasting.{Cutting}
 use Rattle.paired.specs.glob.Sections as glob
@@ -21,11 +24,8 @@ use Rattle.paired.specs.Places.{last_end}
 use Rattle.paired.specs.Reconciling.{CutTo, EndOf, Shortening}
 use Rattle.paired.specs.Records.{records, is_sound, unbroken_prefix}
 use Rattle.paired.specs.Replaying.{Run, IsClean, marker, records_over, records_given}
-use Rattle.paired.proofs.reconcile.Resting.{values_number, values_key}
-use Rattle.paired.proofs.reconcile.Start.{Drained, GaveBack, end_of, given_to, given_whole, ends_of}
 use Rattle.paired.proofs.CutSteps.{records_step, values_step, removing_step}
 use Rattle.paired.proofs.Ends.{Between, none_of_not, not_of_none, not_longer, long_held, ends_held}
-use Rattle.paired.proofs.opening.Ends.{same_order}
 use Rattle.paired.proofs.Steps.{step_wider}
 use Rattle.paired.proofs.reconcile.Left.{HeldValues, Kind, IsDirty, Stage}
 use Rattle.blob_device.proofs.general.Options.{none_or_value}

@@ -32,7 +32,7 @@ use Rattle.meta_store.specs.Copies.{IsStorable}
 use Rattle.meta_store.specs.Format.{Format}
 use Rattle.meta_store.specs.Staging.{Puts, StandsAsBefore}
 use Rattle.meta_store.specs.Store.{MayBeSynced, Seen, Stands, Store, staging, synced_store, contents_of}
-use Rattle.meta_store.proofs.Inserting.{retained_fewer}
+use Rattle.meta_store.specs.lemmas.Inserting.{retained_fewer}
 use Rattle.paired.specs.Kept.{MarkerMap, IsMarked, marker_of}
 use Rattle.paired.specs.Tracked.{Tracked, synced_of, Trails, IsFrom}
 use Rattle.blob_device.proofs.general.Lists.{contains_or_not}

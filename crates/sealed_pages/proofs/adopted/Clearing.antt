@@ -13,13 +13,13 @@ use Rattle.sealed_pages.specs.Flushing.{no_slot}
 use Rattle.sealed_pages.specs.Leftover.{IsBlank, IsTorn, Leftover, IsCleared, OnlySlot, ClearsFirst, SettlesNothing}
 use Rattle.sealed_pages.specs.Slots.{slot_length}
 use Rattle.sealed_pages.specs.View.{page_at, slot_at}
-use Rattle.sealed_pages.proofs.adopted.Adopting.{pages_some}
-use Rattle.sealed_pages.proofs.Prefixes.{kept_on}
+use Rattle.sealed_pages.specs.lemmas.Prefixes.{kept_on}
+use Rattle.sealed_pages.specs.lemmas.adopted.Adopting.{pages_some}
+use Rattle.sealed_pages.specs.lemmas.slots.PageCalls.{only_then, only_weaker}
+use Rattle.sealed_pages.specs.lemmas.slots.Slot.{page_next}
+use Rattle.sealed_pages.specs.lemmas.slots.SlotSteps.{slot_is}
+use Rattle.sealed_pages.specs.lemmas.slots.Steps.{slot_high}
 use Rattle.sealed_pages.proofs.adopted.Keeping.{cut_same}
-use Rattle.sealed_pages.proofs.slots.PageCalls.{only_then, only_weaker}
-use Rattle.sealed_pages.proofs.slots.SlotLemmas.{page_next}
-use Rattle.sealed_pages.proofs.slots.SlotSteps.{slot_is}
-use Rattle.sealed_pages.proofs.slots.Steps.{slot_high}
 use Rattle.blob_device.specs.Lengths.{length-resized, length-written}
 use Rattle.blob_device.specs.Places.{resized_below}
 

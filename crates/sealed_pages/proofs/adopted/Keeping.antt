@@ -11,14 +11,14 @@ use Rattle.sealed_pages.specs.Flushing.{next_slot, no_slot, Data, Sound, Covers,
 use Rattle.sealed_pages.specs.Slots.{named_length, slot_length}
 use Rattle.sealed_pages.specs.View.{view, page_at, slot_at}
 use Rattle.blob_device.specs.Guards.{Avoids, Makes}
-use Rattle.sealed_pages.proofs.slots.SlotLemmas.{page_apart, slot_length-le, slot_stands, slot_same, page_next, zero_named}
-use Rattle.sealed_pages.proofs.slots.Steps.{slot_high, below_sound, named_same}
-use Rattle.sealed_pages.proofs.slots.SlotSteps.{slot_is, settled_stands, slot_data_kept, slot_kept, held_slot}
-use Rattle.sealed_pages.proofs.adopted.Repairing.{cleared_below, behind_below, repaired_quiet}
-use Rattle.blob_device.proofs.GuardsLemmas.{sealed_after, sealed_start, sealed_on}
-use Rattle.sealed_pages.proofs.HadLemmas.{had_settled}
-use Rattle.sealed_pages.proofs.slots.PageCalls.{only_weaker}
-use Rattle.sealed_pages.proofs.slots.SealedBytes.{stands_leaves}
+use Rattle.blob_device.specs.lemmas.Guards.{sealed_after, sealed_on, sealed_start}
+use Rattle.sealed_pages.specs.lemmas.Had.{had_settled}
+use Rattle.sealed_pages.specs.lemmas.adopted.Repairing.{behind_below, cleared_below, repaired_quiet}
+use Rattle.sealed_pages.specs.lemmas.slots.PageCalls.{only_weaker}
+use Rattle.sealed_pages.specs.lemmas.slots.SealedBytes.{stands_leaves}
+use Rattle.sealed_pages.specs.lemmas.slots.Slot.{page_apart, page_next, slot_length-le, slot_same, slot_stands, zero_named}
+use Rattle.sealed_pages.specs.lemmas.slots.SlotSteps.{held_slot, settled_stands, slot_data_kept, slot_is, slot_kept}
+use Rattle.sealed_pages.specs.lemmas.slots.Steps.{below_sound, named_same, slot_high}
 use Rattle.blob_device.specs.Lengths.{length-resized, length-written}
 use Rattle.blob_device.specs.Places.{resized_below}
 use Rattle.blob_device.proofs.general.Numbers.{times_more}

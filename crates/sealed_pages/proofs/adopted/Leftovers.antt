@@ -7,8 +7,8 @@ use Rattle.sealed_pages.specs.Leftover.{IsBlank, Leftover}
 use Rattle.sealed_pages.specs.Reading.{page_of}
 use Rattle.sealed_pages.specs.Slots.{slot_length}
 use Rattle.sealed_pages.specs.View.{view, page_at, slot_at}
-use Rattle.sealed_pages.proofs.adopted.Adopting.{pages_none, pages_some}
-use Rattle.sealed_pages.proofs.looking.Looking.{page_zero, part_view}
+use Rattle.sealed_pages.specs.lemmas.adopted.Adopting.{pages_none, pages_some}
+use Rattle.sealed_pages.specs.lemmas.looking.Looking.{page_zero, part_view}
 
 -- a slot of a page by itself, and in the blob
 slot_view : (seal : List ℕ → ℕ) (P : ℕ) (c : List ℕ) (k : ℕ) (x : Bool) (i : ℕ) → i < 6 → get_or (page_of P c k) (slot_at P 0 x + i) 0 ≡ view c (slot_at P k x + i)

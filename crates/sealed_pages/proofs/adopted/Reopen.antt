@@ -12,7 +12,7 @@ use Rattle.sealed_pages.specs.Entries.{IsOpenAt}
 use Rattle.sealed_pages.specs.Reading.{Unchanged, OnlyRead}
 use Rattle.sealed_pages.specs.Reopening.{OnlySettles, StaysOpen}
 use Rattle.sealed_pages.specs.lemmas.Entries.{open_some, open_entered}
-use Rattle.sealed_pages.proofs.looking.Looking.{content_length}
+use Rattle.sealed_pages.specs.lemmas.looking.Looking.{content_length}
 
 make_during : (b : Blob) → b.there ≡ true → during Make b ≡ b
 make_during b there = ap (λ (t : Bool). cond t b (record b { content = []; unsure = true; since = b.since ++ [] ∷ [] })) there

@@ -12,14 +12,16 @@ use Rattle.sealed_pages.specs.Slots.{slot_length, page_length, best_slot}
 use Rattle.sealed_pages.specs.Starts.{Starts, StartsOver}
 use Rattle.sealed_pages.specs.View.{view, page_at, slot_at}
 use Rattle.sealed_pages.specs.declared.reading.LastPage.{LastPage}
-use Rattle.sealed_pages.proofs.adopted.Repairing.{adopted_below, page_order}
-use Rattle.sealed_pages.proofs.slots.SlotLemmas.{slot_length-le}
+use Rattle.sealed_pages.specs.lemmas.adopted.Adopt.{best_covers, length-data_from, own_data}
+use Rattle.sealed_pages.specs.lemmas.adopted.Adopting.{pages_none, pages_some}
+use Rattle.sealed_pages.specs.lemmas.adopted.Repairing.{adopted_below, page_order}
+use Rattle.sealed_pages.specs.lemmas.looking.Looking.{page_length_is, page_zero, part_view}
+use Rattle.sealed_pages.specs.lemmas.memory.Holding.{extent_more}
+use Rattle.sealed_pages.specs.lemmas.slots.Slot.{slot_length-le}
 use Rattle.std.proofs.lemmas.List.{get_or_append_left, get_or-append_right, get_or-take}
-use Rattle.sealed_pages.proofs.adopted.Adopt.{own_data, length-data_from, best_covers}
-use Rattle.sealed_pages.proofs.adopted.Adopting.{pages_none, pages_some, pages_reach}
-use Rattle.sealed_pages.proofs.memory.Holding.{extent_more}
+use Rattle.sealed_pages.proofs.adopted.Adopting.{pages_reach}
 use Rattle.std.proofs.Math.Nat.{div-lt_iff_lt-mul}
-use Rattle.sealed_pages.proofs.looking.Looking.{page_length_is, blank_named, page_zero, page_reaches, part_view}
+use Rattle.sealed_pages.proofs.looking.Looking.{blank_named, page_reaches}
 use Rattle.blob_device.proofs.general.Numbers.{times_more, times_next}
 
 module _ (seal : List ℕ → ℕ) (P : ℕ) (c : List ℕ) (page a b : ℕ) (first : a ≡ slot_length seal P c page false) (second : b ≡ slot_length seal P c page true) (some : 1 ≤ page_length seal P c page) where

@@ -1,27 +1,29 @@
 -- The calls of a cut: a change of a settled blob, and a sync.
-use Rattle.std.proofs.Common.{◌≡◌, ◌≢◌, ℕ, ◌+◌, ◌*◌, ◌^◌, ◌<◌, ◌≤◌, inl, inr, cond, min, not, Bool, true, false, List, length, take, drop, Result, Ok, Option, Some, None, IsSomeAnd, refl, sym, ◌∙◌, ap, subst, arith, length-take}
+use Rattle.std.proofs.Common.{◌≡◌, ◌≢◌, ℕ, ◌+◌, ◌*◌, ◌^◌, ◌<◌, ◌≤◌, inl, inr, cond, min, not, Bool, true, false, List, length, take, drop, Result, Ok, refl, sym, ◌∙◌, ap, subst, arith}
 use Rattle.blob_device.specs.declared.error.DevError.{DevError}
-use Rattle.blob_device.specs.Disk.{Key, Blob, past, settled_at}
+use Rattle.blob_device.specs.Disk.{Key, Blob, settled_at}
 use Rattle.blob_device.specs.Change.{Change, Write, Resize, Settle, written, resized, done}
 use Rattle.blob_device.specs.Guards.{Avoids, Makes, Sealed}
 use Rattle.blob_device.specs.Timeline.{Timeline, disk, Passes, Always, OnlyAt}
-use Rattle.blob_device.proofs.GuardsLemmas.{sealed_start, sealed_on}
+use Rattle.blob_device.specs.lemmas.Guards.{sealed_on, sealed_start}
+use Rattle.sealed_pages.specs.lemmas.Reaching.{prefix_sound, rest_leaves, settled_sealed}
+use Rattle.sealed_pages.specs.lemmas.adopted.Adopt.{best_covers}
+use Rattle.sealed_pages.specs.lemmas.cutting.Cuts.{below_start, cut_sound, short_covers, short_sound, zeros_sound}
+use Rattle.sealed_pages.specs.lemmas.slots.PageCalls.{only_then, only_weaker}
+use Rattle.sealed_pages.specs.lemmas.slots.SealedBytes.{SoundTo, sealed_leaves}
+use Rattle.sealed_pages.specs.lemmas.slots.Slot.{page_apart, slot_length-le}
+use Rattle.sealed_pages.specs.lemmas.slots.SlotSteps.{held_slot, length-slot_bytes}
+use Rattle.sealed_pages.specs.lemmas.slots.Steps.{slot_high}
 use Rattle.blob_device.specs.lemmas.Moments.{ok_blob, only_start}
-use Rattle.sealed_pages.specs.ChanceSeal.{NoChanceSeal, Leaves, Sealing}
+use Rattle.sealed_pages.specs.ChanceSeal.{Leaves, Sealing}
 use Rattle.sealed_pages.specs.Cutting.{IsAtRest}
 use Rattle.sealed_pages.specs.Flushing.{with_slot, no_slot, Covers, Held}
-use Rattle.sealed_pages.specs.SealedPrefix.{sealed_prefix, Prefix}
+use Rattle.sealed_pages.specs.SealedPrefix.{sealed_prefix}
 use Rattle.sealed_pages.specs.Slots.{slot_length, page_length, best_slot, slot_bytes}
 use Rattle.sealed_pages.specs.View.{view, page_at, slot_at}
-use Rattle.sealed_pages.proofs.adopted.Adopt.{best_covers}
-use Rattle.sealed_pages.proofs.cutting.Cuts.{resized_take, take_prefix, below_start, cut_sound, short_sound, zeros_sound, short_covers}
-use Rattle.sealed_pages.proofs.slots.PageCalls.{only_weaker, only_then}
-use Rattle.sealed_pages.proofs.Reaching.{prefix_sound, settled_sealed, rest_leaves}
-use Rattle.sealed_pages.proofs.slots.SealedBytes.{SoundTo, sealed_leaves}
-use Rattle.sealed_pages.proofs.slots.SlotLemmas.{page_apart, slot_length-le}
-use Rattle.sealed_pages.proofs.slots.SlotSteps.{length-slot_bytes, held_slot}
-use Rattle.sealed_pages.proofs.slots.Steps.{slot_high}
+use Rattle.sealed_pages.proofs.cutting.Cuts.{resized_take}
 use Rattle.std.proofs.lemmas.Bool.{eq-eqb}
+use Rattle.sealed_pages.specs.lemmas.cutting.Calls.{sealing_less}
 
 pub settled_after : (key : Key) (change : Change) (v u : Unit {0}) (t0 t1 t2 : Timeline) → Passes {T = Unit {0}} key change (Ok v) t0 t1 → Passes {T = Unit {0}} key Settle (Ok u) t1 t2 → disk t2 key ≡ settled_at (done change (disk t0 key)).content
 settled_after key change v u t0 t1 t2 first second = ok_blob key Settle u t1 t2 second ∙ ap (λ (b : Blob). settled_at b.content) (ok_blob key change v t0 t1 first)
@@ -104,31 +106,6 @@ module _ (seal : List ℕ → ℕ) (P : ℕ) (pos : 1 ≤ P) (key : Key) (t0 : T
 
     pub zeros_two : {v : Unit {0}} {x : Result (Unit {0}) DevError} {t1 t2 : Timeline} → Passes {T = Unit {0}} key (Write (slot_at P j b) no_slot) (Ok v) t0 t1 → Passes key Settle x t1 t2 → Sealing seal P (sealed_prefix seal P (disk t0 key).content) (j * P + r) key t0 t2
     zeros_two first second = call_two (sealed_prefix seal P (disk t0 key).content) (j * P + r) (with_slot (best_slot seal P (disk t0 key).content) j a) two_covers (prefix_sound seal P (disk t0 key).content) first zeros_avoids zeros_make zeros_make second
-
--- fewer bytes are claimed
-pub prefix_less : (seal : List ℕ → ℕ) (P : ℕ) (bytes : List ℕ) (L M : ℕ) (c : List ℕ) → M ≤ L → Prefix seal P bytes L c → Prefix seal P bytes M c
-prefix_less seal P bytes L M c le p = record { is = p.is; no_shorter = omega (arith, le, p.no_shorter); no_longer = p.no_longer }
-
--- a prefix of the first bytes is one of all
-pub prefix_whole : (seal : List ℕ → ℕ) (P : ℕ) (bytes : List ℕ) (n L : ℕ) (c : List ℕ) → Prefix seal P (take n bytes) L c → Prefix seal P bytes L c
-prefix_whole seal P bytes n L c p = record {
-  is = p.is ∙ take_prefix (length (sealed_prefix seal P c)) n bytes (omega (arith, p.no_longer, length-take n bytes));
-  no_shorter = p.no_shorter;
-  no_longer = omega (arith, p.no_longer, length-take n bytes);
-}
-
-leaves_by : (seal : List ℕ → ℕ) (P : ℕ) (bytes more : List ℕ) (L M : ℕ) → ((c : List ℕ) → Prefix seal P bytes L c → Prefix seal P more M c) → (b : Blob) → Leaves seal P bytes L b → Leaves seal P more M b
-leaves_by seal P bytes more L M to b leaves left may = go left (leaves left may)
-  where
-    go : (left : Option (List ℕ)) → IsSomeAnd left (λ c. NoChanceSeal seal P (past b) c → Prefix seal P bytes L c) → IsSomeAnd left (λ c. NoChanceSeal seal P (past b) c → Prefix seal P more M c)
-    go None has = has
-    go (Some c) has = λ chance. to c (has chance)
-
-pub sealing_less : (seal : List ℕ → ℕ) (P : ℕ) (bytes : List ℕ) (L M : ℕ) (key : Key) (a b : Timeline) → M ≤ L → Sealing seal P bytes L key a b → Sealing seal P bytes M key a b
-sealing_less seal P bytes L M key a b le sealing = only_weaker a b key (disk a) (Leaves seal P bytes L) (Leaves seal P bytes M) (leaves_by seal P bytes bytes L M (λ c p. prefix_less seal P bytes L M c le p)) sealing
-
-pub sealing_whole : (seal : List ℕ → ℕ) (P : ℕ) (bytes : List ℕ) (n L : ℕ) (key : Key) (a b : Timeline) → Sealing seal P (take n bytes) L key a b → Sealing seal P bytes L key a b
-sealing_whole seal P bytes n L key a b sealing = only_weaker a b key (disk a) (Leaves seal P (take n bytes) L) (Leaves seal P bytes L) (leaves_by seal P (take n bytes) bytes L L (λ c p. prefix_whole seal P bytes n L c p)) sealing
 
 pub sealing_then : (seal : List ℕ → ℕ) (P : ℕ) (bytes : List ℕ) (L : ℕ) (key : Key) (a b c : Timeline) → Sealing seal P bytes L key a b → Sealing seal P bytes L key b c → Sealing seal P bytes L key a c
 sealing_then seal P bytes L key a b c first second = only_then a b c key (Leaves seal P bytes L) first second

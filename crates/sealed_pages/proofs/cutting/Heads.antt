@@ -8,10 +8,12 @@ use Rattle.sealed_pages.specs.Entries.{IsOpenAt}
 use Rattle.sealed_pages.specs.Reading.{page_of}
 use Rattle.sealed_pages.specs.Slots.{slot_length, page_length, best_slot}
 use Rattle.sealed_pages.specs.View.{page_at}
-use Rattle.sealed_pages.proofs.cutting.Cuts.{take_prefix, covered_inside}
-use Rattle.sealed_pages.proofs.looking.Looking.{content_length, page_length_is, part_slot, take_short, slot_short}
-use Rattle.sealed_pages.proofs.slots.SlotLemmas.{slot_length-le}
-use Rattle.sealed_pages.proofs.slots.Steps.{slot_low}
+use Rattle.sealed_pages.proofs.cutting.Cuts.{covered_inside}
+use Rattle.sealed_pages.proofs.looking.Looking.{take_short}
+use Rattle.sealed_pages.specs.lemmas.cutting.Cuts.{take_prefix}
+use Rattle.sealed_pages.specs.lemmas.looking.Looking.{content_length, page_length_is, part_slot, slot_short}
+use Rattle.sealed_pages.specs.lemmas.slots.Slot.{slot_length-le}
+use Rattle.sealed_pages.specs.lemmas.slots.Steps.{slot_low}
 
 -- an opened blob is as long as its entry says
 pub end_is : {D : Type 0} (dev : device.Ghosts D) (blob : Key) (n : ℕ) (d : D) (there : Type 0) → IfSome (dev.opened d blob) (λ x. there × (length (disk (dev.time d) blob).content ≡ x.len)) → IsOpenAt (dev.opened d) blob n → length (disk (dev.time d) blob).content ≡ n

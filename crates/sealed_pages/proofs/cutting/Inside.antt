@@ -17,10 +17,11 @@ use Rattle.sealed_pages.specs.Unrecovered.{SparesPrefix}
 use Rattle.sealed_pages.specs.View.{page_at, slot_at}
 use Rattle.sealed_pages.specs.lemmas.Entries.{no_reads_then}
 use Rattle.sealed_pages.proofs.Prefixes.{prefix_page, prefix_then}
-use Rattle.sealed_pages.proofs.slots.PageCalls.{alone_then}
-use Rattle.sealed_pages.proofs.cutting.Truncating.{rose_since}
-use Rattle.sealed_pages.proofs.cutting.Calls.{sealing_less}
-use Rattle.sealed_pages.proofs.cutting.Steps.{settled_rest, last1, own1, covered1, page_is1, prefix1, inside1, last2, own2, prefix2, inside2, later_any, both_any}
+use Rattle.sealed_pages.specs.lemmas.cutting.Calls.{sealing_less}
+use Rattle.sealed_pages.specs.lemmas.cutting.Steps.{settled_rest}
+use Rattle.sealed_pages.specs.lemmas.cutting.Truncating.{rose_since}
+use Rattle.sealed_pages.specs.lemmas.slots.PageCalls.{alone_then}
+use Rattle.sealed_pages.proofs.cutting.Steps.{last1, own1, covered1, page_is1, prefix1, inside1, last2, own2, prefix2, inside2, later_any, both_any}
 use Rattle.blob_device.proofs.general.Numbers.{times_next}
 
 -- what is promised of a slot, by another name

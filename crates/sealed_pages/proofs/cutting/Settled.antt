@@ -11,9 +11,9 @@ use Rattle.sealed_pages.specs.Entries.{NoReads}
 use Rattle.sealed_pages.specs.Flushing.{Alone}
 use Rattle.sealed_pages.specs.Unrecovered.{SparesPrefix}
 use Rattle.sealed_pages.specs.lemmas.Entries.{no_reads_then, no_reads_same, no_reads_open}
-use Rattle.sealed_pages.proofs.Prefixes.{prefix_settle}
+use Rattle.sealed_pages.specs.lemmas.Prefixes.{prefix_settle}
+use Rattle.sealed_pages.specs.lemmas.cutting.Truncating.{rose_since}
 use Rattle.sealed_pages.proofs.slots.PageCalls.{alone_start, alone_on}
-use Rattle.sealed_pages.proofs.cutting.Truncating.{rose_since}
 
 -- no other blob changes, the bytes before `low` stand, no read began, and a fault that is told is counted
 pub record Steps {D T : Type 0} (dev : device.Ghosts D) (blob : Key) (low : ℕ) (old new : D) (result : Result T DevError) : Type 0 where

@@ -1,31 +1,24 @@
 -- The three steps of a cut inside a page, one after the other.
-use Rattle.std.proofs.Common.{◌≡◌, ◌≢◌, ℕ, ◌+◌, ◌*◌, ◌^◌, ◌<◌, ◌≤◌, min, not, Bool, true, false, List, length, take, drop, refl, sym, ◌∙◌, ap, subst, arith, length-take, length-drop}
+use Rattle.std.proofs.Common.{◌≡◌, ℕ, ◌+◌, ◌*◌, ◌^◌, ◌<◌, ◌≤◌, min, not, Bool, true, false, List, length, take, drop, refl, sym, ◌∙◌, ap, subst, arith, length-take, length-drop}
 use Rattle.std.proofs.lemmas.List.{get_or-take, get_or-drop, ext_get_or}
-use Rattle.blob_device.specs.Disk.{Key, Blob, settled_at}
+use Rattle.blob_device.specs.Disk.{Key}
 use Rattle.blob_device.specs.Change.{written}
 use Rattle.blob_device.specs.Timeline.{Timeline}
 use Rattle.sealed_pages.specs.ChanceSeal.{Sealing}
-use Rattle.sealed_pages.specs.Cutting.{IsAtRest}
 use Rattle.sealed_pages.specs.SealedPrefix.{sealed_prefix}
 use Rattle.sealed_pages.specs.Slots.{slot_length, page_length, best_slot, slot_bytes}
 use Rattle.sealed_pages.specs.View.{page_at, slot_at}
-use Rattle.sealed_pages.proofs.cutting.Calls.{sealing_less, sealing_whole, sealing_then}
-use Rattle.sealed_pages.proofs.cutting.Cuts.{cut_page, cut_best, cut_prefix, six_end, short_whole, short_length, short_prefix}
-use Rattle.sealed_pages.proofs.slots.SlotLemmas.{page_next}
-use Rattle.sealed_pages.proofs.slots.SlotSteps.{length-slot_bytes}
+use Rattle.sealed_pages.proofs.cutting.Calls.{sealing_then}
+use Rattle.sealed_pages.specs.lemmas.cutting.Calls.{sealing_less, sealing_whole}
+use Rattle.sealed_pages.specs.lemmas.cutting.Cuts.{cut_best, cut_page, cut_prefix, short_length, short_prefix, short_whole, six_end}
+use Rattle.sealed_pages.specs.lemmas.slots.Slot.{page_next}
+use Rattle.sealed_pages.specs.lemmas.slots.SlotSteps.{length-slot_bytes}
 use Rattle.blob_device.proofs.general.Numbers.{times_next}
+use Rattle.sealed_pages.specs.lemmas.cutting.Steps.{other_not}
 
 pub not_not : (b : Bool) → not (not b) ≡ b
 not_not true = refl
 not_not false = refl
-
-pub other_not : (b : Bool) → b ≢ not b
-other_not true e = cc e
-other_not false e = cc e
-
--- what was settled at a content is at rest
-pub settled_rest : (b : Blob) (c : List ℕ) → b ≡ settled_at c → IsAtRest b
-settled_rest b c is = is ∙ ap settled_at (sym (ap (λ (x : Blob). x.content) is))
 
 -- bytes of a page, in the content and in its cut
 part_of_cut : (c : List ℕ) (n at r : ℕ) → at + r ≤ n → take r (drop at (take n c)) ≡ take r (drop at c)

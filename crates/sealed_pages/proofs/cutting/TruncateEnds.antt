@@ -19,14 +19,19 @@ use Rattle.sealed_pages.specs.SealedPrefix.{sealed_prefix, adopted_size}
 use Rattle.sealed_pages.specs.Slots.{page_length}
 use Rattle.sealed_pages.specs.Unrecovered.{blob_of, prefix_of, SparesPrefix, KeepsPrefix, IsUnrecovered, IsRecovery, IsSafeCut}
 use Rattle.sealed_pages.specs.View.{page_at, view}
-use Rattle.sealed_pages.proofs.cutting.Calls.{sealing_less, sealing_then}
-use Rattle.sealed_pages.proofs.Prefixes.{prefix_look, prefix_then, prefix_now}
-use Rattle.sealed_pages.proofs.memory.Holding.{holds_data, holds_own, holds_bytes, bytes_length}
-use Rattle.sealed_pages.proofs.looking.Looking.{unchanged_now}
-use Rattle.sealed_pages.proofs.slots.PageCalls.{alone_then}
-use Rattle.sealed_pages.proofs.cutting.Truncating.{all_flushed, after_sync, page_stands, cut_place, data_taken, settles_of, leaves_of, prefix_covers, rose_since}
+use Rattle.sealed_pages.proofs.cutting.Calls.{sealing_then}
+use Rattle.sealed_pages.proofs.Prefixes.{prefix_look, prefix_then}
+use Rattle.sealed_pages.proofs.memory.Holding.{holds_data, holds_own, holds_bytes}
+use Rattle.sealed_pages.specs.lemmas.Prefixes.{prefix_now}
+use Rattle.sealed_pages.specs.lemmas.Unrecovered.{keeps_now, keeps_sealing, keeps_then, prefix_short}
+use Rattle.sealed_pages.specs.lemmas.cutting.Calls.{sealing_less}
+use Rattle.sealed_pages.specs.lemmas.cutting.Truncating.{all_flushed, prefix_covers, rose_since, settles_of}
+use Rattle.sealed_pages.specs.lemmas.looking.Looking.{unchanged_now}
+use Rattle.sealed_pages.specs.lemmas.memory.Holding.{bytes_length}
+use Rattle.sealed_pages.specs.lemmas.slots.PageCalls.{alone_then}
+use Rattle.sealed_pages.proofs.cutting.Truncating.{after_sync, page_stands, cut_place, data_taken, leaves_of}
 use Rattle.sealed_pages.specs.SlotNames.{}
-use Rattle.sealed_pages.proofs.UnrecoveredLemmas.{prefix_short, keeps_sealing, keeps_now, keeps_then, prefix_stands, cut_keeps, cut_stays, spared_covers}
+use Rattle.sealed_pages.proofs.UnrecoveredLemmas.{prefix_stands, cut_keeps, cut_stays, spared_covers}
 use Rattle.blob_device.proofs.general.Results.{both_ok, if_ok_with, map_ok, on_err, on_ok, on_ok_two}
 
 -- the bytes that a buffer means

@@ -1,6 +1,6 @@
 -- A buffer that is cut: what it holds before and after.
-use Rattle.std.proofs.Common.{eqb, ◌≡◌, ◌≢◌, ◌⊎◌, inl, inr, ℕ, ◌+◌, ◌-◌, ◌*◌, ◌/◌, ◌%◌, ◌^◌, ◌<◌, ◌≤◌, ◌||◌, not, Bool, false, cond, List, [], length, get_or, take, drop, Result, Ok, Err, refl, sym, ◌∙◌, ap, subst, arith, length-take, IsErrAnd}
-use Rattle.std.proofs.lemmas.Bool.{cases_Bool, cases_eq, cases_lt, eq-eqb, ne_eqb}
+use Rattle.std.proofs.Common.{eqb, ◌≡◌, ◌≢◌, ◌⊎◌, inl, inr, ℕ, ◌+◌, ◌-◌, ◌*◌, ◌/◌, ◌%◌, ◌^◌, ◌<◌, ◌≤◌, not, Bool, false, cond, List, [], length, get_or, take, drop, Result, Ok, Err, refl, sym, ◌∙◌, ap, subst, arith, length-take, IsErrAnd}
+use Rattle.std.proofs.lemmas.Bool.{cases_eq, cases_lt, eq-eqb, ne_eqb}
 use Rattle.std.proofs.lemmas.List.{get_or-take, get_or-drop}
 use Rattle.blob_device.specs.Change.{written, resized}
 use Rattle.blob_device.specs.Disk.{Key, Blob, Disk, settled_at}
@@ -24,52 +24,27 @@ use Rattle.sealed_pages.specs.Reading.{Unchanged}
 use Rattle.sealed_pages.specs.SealedPrefix.{pages_in, sealed_prefix, adopted_size}
 use Rattle.sealed_pages.specs.Slots.{slot_length, page_length, best_slot, slot_bytes}
 use Rattle.sealed_pages.specs.View.{View, view, page_at, slot_at, StandsAt}
-use Rattle.sealed_pages.proofs.adopted.Adopt.{best_covers, best_length, sealed_covers}
-use Rattle.sealed_pages.proofs.adopted.Adopting.{end_page}
-use Rattle.sealed_pages.proofs.cutting.Cuts.{take_prefix, below_start, best_is, cut_prefix, cut_at_most, cut_quiet, zeros_below, zeros_quiet, zeros_covers, zeros_prefix, with_own}
-use Rattle.sealed_pages.proofs.cutting.Calls.{sealing_less, sealing_then}
-use Rattle.sealed_pages.proofs.looking.Looking.{unchanged_now}
-use Rattle.sealed_pages.proofs.HadLemmas.{had_rest}
-use Rattle.sealed_pages.proofs.slots.PageCalls.{alone_then}
-use Rattle.sealed_pages.proofs.adopted.Repairing.{page_order}
-use Rattle.sealed_pages.proofs.cutting.Steps.{other_not, last2, own2, prefix2, inside2}
-use Rattle.sealed_pages.proofs.memory.Holding.{holds_leaves, bytes_is, data_less}
+use Rattle.sealed_pages.specs.lemmas.Had.{had_rest}
+use Rattle.sealed_pages.specs.lemmas.Reaching.{prefix_sound, rest_leaves, size_at_most}
+use Rattle.sealed_pages.specs.lemmas.adopted.Adopt.{best_covers, best_length}
+use Rattle.sealed_pages.specs.lemmas.adopted.Adopting.{end_page}
+use Rattle.sealed_pages.specs.lemmas.adopted.Repairing.{page_order}
+use Rattle.sealed_pages.specs.lemmas.cutting.Calls.{sealing_less}
+use Rattle.sealed_pages.specs.lemmas.cutting.Cuts.{below_start, best_is, cut_at_most, cut_prefix, cut_quiet, take_prefix, with_own, zeros_below, zeros_covers, zeros_prefix, zeros_quiet}
+use Rattle.sealed_pages.specs.lemmas.cutting.Steps.{other_not}
+use Rattle.sealed_pages.specs.lemmas.looking.Looking.{unchanged_now}
+use Rattle.sealed_pages.specs.lemmas.memory.Holding.{holds_leaves}
+use Rattle.sealed_pages.specs.lemmas.slots.PageCalls.{alone_then}
+use Rattle.sealed_pages.specs.lemmas.slots.SealedBytes.{SoundTo, page_length-le}
+use Rattle.sealed_pages.specs.lemmas.slots.Slot.{page_apart, slot_stands}
+use Rattle.sealed_pages.specs.lemmas.slots.SlotSteps.{length-slot_bytes, settled_stands, slot_data_kept}
+use Rattle.sealed_pages.specs.lemmas.slots.Steps.{slot_low}
+use Rattle.sealed_pages.proofs.cutting.Calls.{sealing_then}
+use Rattle.sealed_pages.proofs.cutting.Steps.{last2, own2, prefix2, inside2}
+use Rattle.sealed_pages.proofs.memory.Holding.{bytes_is, data_less}
 use Rattle.sealed_pages.proofs.adopted.Keeping.{data_cut}
-use Rattle.sealed_pages.proofs.Reaching.{prefix_sound, prefix_is, size_at_most, adopted_size_is, rest_leaves}
-use Rattle.sealed_pages.proofs.slots.SealedBytes.{SoundTo, sound_to, page_length-le}
-use Rattle.sealed_pages.proofs.slots.SlotLemmas.{page_apart, slot_stands}
-use Rattle.sealed_pages.proofs.slots.SlotSteps.{length-slot_bytes, slot_data_kept, settled_stands}
-use Rattle.sealed_pages.proofs.slots.Steps.{quiet_below, below_sound, tidy_sound, slot_low}
 use Rattle.blob_device.proofs.general.Numbers.{times_more, times_next}
-
--- once all is settled, the bytes are the sealed prefix of what has settled
-pub holds_rest : (seal : List ℕ → ℕ) (u : Buffer) (all : List ℕ) (b : Blob) → u.from < u.page_size → Holds seal u all b → u.settled ≡ size_of u → u.from ≡ length u.tip → IsAtRest b
-holds_rest seal u all b begun holds settled full = elim (cases_Bool (u.behind || u.torn)) [
-  | inl left ↦ (holds.state.adopted left).0.is
-  | inr clean ↦ (holds.state.ready clean).rest (omega (arith, settled, full))
-]
-
-pub holds_prefix : (seal : List ℕ → ℕ) (u : Buffer) (all : List ℕ) (b : Blob) → u.from < u.page_size → Holds seal u all b → u.from ≡ length u.tip → sealed_prefix seal u.page_size b.content ≡ all
-holds_prefix seal u all b begun holds full =
-    let pos : 1 ≤ u.page_size = omega (arith, begun) in
-    let far : flushed_of u ≡ length all = omega (arith, full, holds.size) in
-    elim (cases_Bool (u.behind || u.torn)) [
-      | inl left ↦ (let k = (holds.state.adopted left).0.content in let σ = (holds.state.adopted left).0.σ in
-          prefix_is seal u.page_size all b.content σ pos (sound_to seal u.page_size all b.content (below_sound seal u.page_size all (flushed_of u) b.content k.fits k.below k.same))
-          (subst (λ (n : ℕ). Covers seal u.page_size b.content n σ) far k.covers))
-      | inr clean ↦ (let f = (holds.state.ready clean).flushed in let τ = (holds.state.ready clean).τ in
-          prefix_is seal u.page_size all b.content τ pos (sound_to seal u.page_size all b.content (tidy_sound seal u.page_size all (flushed_of u) b.content f.fits f.quiet f.same))
-          (subst (λ (n : ℕ). Covers seal u.page_size b.content n τ) far f.covers))
-    ]
-
--- adopting the blob gives what is flushed
-pub holds_again : (seal : List ℕ → ℕ) (u : Buffer) (all : List ℕ) (b : Blob) → u.from < u.page_size → Holds seal u all b → adopted_size seal u.page_size b.content ≡ flushed_of u
-holds_again seal u all b begun holds =
-    let pos : 1 ≤ u.page_size = omega (arith, begun) in
-    elim (cases_Bool (u.behind || u.torn)) [
-      | inl left ↦ (let k = (holds.state.adopted left).0.content in adopted_size_is seal u.page_size (flushed_of u) b.content (holds.state.adopted left).0.σ pos k.below k.covers)
-      | inr clean ↦ (let f = (holds.state.ready clean).flushed in adopted_size_is seal u.page_size (flushed_of u) b.content (holds.state.ready clean).τ pos (quiet_below seal u.page_size (flushed_of u) b.content f.quiet) f.covers)
-    ]
+use Rattle.sealed_pages.specs.lemmas.cutting.Truncating.{all_flushed, settles_of}
 
 -- a page that an adopted blob has stands below its end
 module _ (seal : List ℕ → ℕ) (P : ℕ) where
@@ -224,18 +199,6 @@ module _ (seal : List ℕ → ℕ) (P : ℕ) (pos : 1 ≤ P) (key : Key) (a b : 
 pub as_of : (Q : Key → ℕ → Type 0) {k k' : Key} {p p' : ℕ} → k ≡ k' → p ≡ p' → Q k p → Q k' p'
 as_of Q e f has = subst (λ (x : Key × ℕ). Q x.0 x.1) (λ t. (e t, f t)) has
 
--- all is flushed where all has settled
-pub all_flushed : (u : Buffer) → u.from ≤ length u.tip → u.settled ≤ flushed_of u → u.settled ≡ size_of u → u.from ≡ length u.tip
-all_flushed u within order settled = omega (arith, within, order, settled)
-
--- where all has settled
-pub settles_of : (seal : List ℕ → ℕ) (v : Buffer) (P : ℕ) (all : List ℕ) (b : Blob) → v.page_size ≡ P → v.from < v.page_size → v.from ≡ length v.tip → v.settled ≡ size_of v → Holds seal v all b → Settles seal P all b
-settles_of seal v P all b page begun full settled holds = record {
-  rest = holds_rest seal v all b begun holds settled full;
-  prefix = ap (λ (n : ℕ). sealed_prefix seal n b.content) (sym page) ∙ holds_prefix seal v all b begun holds full;
-  adopted = ap (λ (n : ℕ). adopted_size seal n b.content) (sym page) ∙ holds_again seal v all b begun holds ∙ (let e : flushed_of v ≡ length all = omega (arith, full, holds.size) in e);
-}
-
 -- after a sync
 pub after_sync : (seal : List ℕ → ℕ) (u v : Buffer) (b0 b1 : Blob) → v.page_size ≡ u.page_size → v.from < v.page_size → v.from ≤ length v.tip → v.settled ≤ flushed_of v → v.settled ≡ size_of v → Holds seal v (bytes_of v b1.content) b1 → bytes_of v b1.content ≡ bytes_of u b0.content
     → Settles seal u.page_size (bytes_of u b0.content) b1
@@ -292,10 +255,6 @@ not_named (Err e) q B C never more cause = elim cause [
   ]
 ]
 
--- the count rose since an earlier moment too
-pub rose_since : (a b n : ℕ) → a ≤ b → Rose b n → Rose a n
-rose_since a b n le rose = omega (arith, le, rose)
-
 pub data_taken : (P : ℕ) (all : List ℕ) (F L : ℕ) (v : View) → L ≤ F → Data P all F v → Data P (take L all) L v
 data_taken P all F L v le same k i lt below = same k i lt (omega (arith, below, le)) ∙ sym (get_or-take L all (k * P + i) 0 below)
 
@@ -314,9 +273,3 @@ no_need x y r is so = elim (cases_eq x y) [
   | inl same ↦ same
   | inr differ ↦ absurd (cc (is, so, ne_eqb x y differ))
 ]
-
--- a page below the end of the sealed prefix is covered as far as that
-pub prefix_covers : (seal : List ℕ → ℕ) (P : ℕ) (c : List ℕ) (j n : ℕ) → 0 < n → n ≤ P → j * P + n ≤ length (sealed_prefix seal P c) → n ≤ page_length seal P c j
-unfolding sealed_prefix
-prefix_covers seal P c j n some small within =
-    omega (arith, sealed_covers seal P c (pages_in P c) 0 j (omega arith) (omega (arith, some, within)), small, within)

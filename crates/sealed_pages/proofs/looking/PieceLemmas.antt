@@ -2,7 +2,7 @@
 use Rattle.std.proofs.Common.{◌≡◌, ◌⊎◌, inl, inr, ◌%◌, ℕ, zero, suc, ◌+◌, ◌-◌, ◌*◌, ◌/◌, ◌^◌, ◌<◌, ◌≤◌, min, List, length, take, drop, refl, sym, ◌∙◌, ap, arith, length-drop}
 use Rattle.std.proofs.Math.Nat.{mul-le-mul_right, div-mul-le_self, lt-div-mul-add}
 use Rattle.std.proofs.lemmas.Grind.{div_ceil_times}
-use Rattle.sealed_pages.proofs.slots.SealedBytes.{page_length-le}
+use Rattle.sealed_pages.specs.lemmas.slots.SealedBytes.{length-step, page_length-le, rest_is}
 use Rattle.sealed_pages.specs.Proven.{prefix_upto, proven_prefix}
 use Rattle.sealed_pages.specs.Reads.{pages_for}
 use Rattle.std.proofs.lemmas.Bool.{cases_lt}
@@ -15,7 +15,6 @@ use Rattle.sealed_pages.specs.Slots.{page_length}
 use Rattle.sealed_pages.specs.View.{page_at}
 use Rattle.sealed_pages.proofs.looking.Looking.{page_below, take_short}
 use Rattle.sealed_pages.proofs.looking.ReadLemmas.{index_twice, part_page, page_in}
-use Rattle.sealed_pages.proofs.slots.SealedBytes.{rest_is, length-step}
 use Rattle.blob_device.proofs.general.Numbers.{times_next, times_sum}
 
 page_sum : (P q j : ℕ) → page_at P q + page_at P j ≡ page_at P (q + j)

@@ -1,6 +1,6 @@
 -- Reading a range of bytes page by page.
-use Rattle.std.proofs.Common.{◌≡◌, ◌≢◌, ◌⊎◌, inl, inr, ℕ, ◌+◌, ◌-◌, ◌*◌, ◌/◌, ◌<◌, ◌≤◌, ◌^◌, min, max, Option, Some, None, Bool, Result, Ok, cond, true, false, List, [], ◌∷◌, ◌++◌, length, get_or, take, drop, length-take, length-drop, length-append, refl, sym, ◌∙◌, ap, arith}
-use Rattle.std.proofs.lemmas.Bool.{cases_lt, ne_eqb}
+use Rattle.std.proofs.Common.{◌≡◌, ◌⊎◌, inl, inr, ℕ, ◌+◌, ◌-◌, ◌*◌, ◌/◌, ◌<◌, ◌≤◌, ◌^◌, min, max, Option, Some, None, Bool, Result, Ok, true, false, List, [], ◌∷◌, ◌++◌, length, get_or, take, drop, length-take, length-drop, length-append, refl, sym, ◌∙◌, ap, arith}
+use Rattle.std.proofs.lemmas.Bool.{cases_lt}
 use Rattle.std.proofs.lemmas.List.{get_or-take, get_or-drop, get_or_append_left, get_or-append_right, ext_get_or, take_all, take-append-le}
 use Rattle.std.proofs.Math.Nat.{mul-le-mul_right}
 use Rattle.std.proofs.lemmas.Nat.{le-div}
@@ -14,39 +14,20 @@ use Rattle.sealed_pages.specs.declared.reading.LastPage.{LastPage}
 use Rattle.sealed_pages.specs.Buffer.{extent}
 use Rattle.sealed_pages.specs.Found.{Finds}
 use Rattle.sealed_pages.specs.Reading.{page_of}
-use Rattle.sealed_pages.specs.Reads.{IsWanted, IsShort, touched, needed, below}
+use Rattle.sealed_pages.specs.Reads.{IsWanted, IsShort, needed, below}
 use Rattle.sealed_pages.specs.SealedPrefix.{place, data_from, adopted_size}
 use Rattle.sealed_pages.specs.Slots.{slot_length, page_length}
 use Rattle.sealed_pages.specs.View.{View, view, page_at}
-use Rattle.sealed_pages.proofs.adopted.Adopt.{length-data_from, get_or-data_from}
-use Rattle.sealed_pages.proofs.adopted.Repairing.{page_order}
-use Rattle.sealed_pages.proofs.looking.Looking.{page_length_is, part_slot}
-use Rattle.sealed_pages.proofs.slots.SlotLemmas.{page_next, slot_stands}
-use Rattle.blob_device.proofs.general.Numbers.{times_more, times_next}
+use Rattle.sealed_pages.specs.lemmas.adopted.Adopt.{get_or-data_from, length-data_from}
+use Rattle.sealed_pages.specs.lemmas.adopted.Repairing.{page_order}
+use Rattle.sealed_pages.specs.lemmas.looking.Looking.{page_length_is, part_slot}
+use Rattle.sealed_pages.specs.lemmas.slots.Slot.{page_next, slot_stands}
+use Rattle.blob_device.proofs.general.Numbers.{times_next}
+use Rattle.sealed_pages.specs.lemmas.looking.Read.{page_before}
 
 -- a page by itself is covered as far as in the blob
 pub part_page : (seal : List ℕ → ℕ) (P : ℕ) (c : List ℕ) (k : ℕ) → page_at P k + (P + 12) < 2 ^ 64 → page_length seal P (page_of P c k) 0 ≡ page_length seal P c k
 part_page seal P c k room = omega (arith, page_length_is seal P (page_of P c k) 0, page_length_is seal P c k, part_slot seal P c k room false, part_slot seal P c k room true)
-
-touched_some : (P m n : ℕ) → 0 < n → touched P m n ≡ (m + n + (P - 1)) / P - m / P
-touched_some P m n some = let differ : n ≢ 0 = λ e. omega (arith, e, some) in ap (λ t. cond t 0 ((m + n + (P - 1)) / P - m / P)) (ne_eqb n 0 differ)
-
--- the pages up to one that is wanted
-pub touched_upto : (P m n k : ℕ) → 1 ≤ P → 0 < n → k * P < m + n → k + 1 - m / P ≤ touched P m n
-touched_upto P m n k pos some high =
-    let reach : (k + 1) * P ≤ m + n + (P - 1) = omega (arith, times_next k P, high, pos) in
-    let le : k + 1 ≤ (m + n + (P - 1)) / P = le-div (k + 1) (m + n + (P - 1)) P (omega (arith, pos)) reach in
-    omega (arith, le, touched_some P m n some)
-
--- a page whose end is not past another's begin
-pub page_before : (P k j : ℕ) → k * P < j * P → k < j
-page_before P k j lt = elim (cases_lt k j) [
-  | inl less ↦ less
-  | inr le ↦ elim (cases_lt j k) [
-    | inl more ↦ absurd (omega (arith, lt, times_more j k P more))
-    | inr same ↦ (let e : k ≡ j = omega (arith, le, same) in absurd (omega (arith, lt, ap (λ (x : ℕ). x * P) e)))
-  ]
-]
 
 pub index_twice : (P k : ℕ) → k + k ≤ page_at P k
 unfolding page_at
@@ -153,10 +134,6 @@ found_room P end None n below some none k lt = absurd (omega (arith, lt, none))
 found_room P end (Some p) n below some none k lt =
     let le : k < p.page + 1 = page_before P k (p.page + 1) (omega (arith, lt, some, below.3, below.4, times_next p.page P)) in
     omega (arith, page_order (λ x. 0) P k p.page (omega (arith, le)), below.1)
-
--- what was read byte by byte, as a list
-pub read_data : (P m n : ℕ) (v : View) (out : List ℕ) → length out ≡ n → ((i : ℕ) → i < n → get_or out i 0 ≡ v (place P (m + i))) → out ≡ data_from P v m n
-read_data P m n v out long each = ext_get_or 0 out (data_from P v m n) (long ∙ sym (length-data_from P v n m)) (λ i lt. each i (omega (arith, lt, long)) ∙ sym (get_or-data_from P v n m i (omega (arith, lt, long))))
 
 -- a page with a matching slot is one of the content's pages
 pub page_in : (seal : List ℕ → ℕ) (P : ℕ) (c : List ℕ) (k : ℕ) → 1 ≤ page_length seal P c k → k < length c / (P + 12) + 1

@@ -1,16 +1,15 @@
 -- Pages that are held in memory.
 use Rattle.std.proofs.Common.{◌≡◌, ◌≢◌, ◌⊎◌, inl, inr, ℕ, zero, suc, ◌+◌, ◌-◌, ◌*◌, ◌/◌, ◌<◌, ◌≤◌, min, Bool, true, false, cond, List, [], ◌∷◌, ◌++◌, length, get_or, take, drop, map, nat_eq, Option, Some, None, Vec, refl, sym, ◌∙◌, ap, subst, arith, length-take, length-drop, length-append}
 use Rattle.std.specs.declared.alloc.Global.{Global}
-use Rattle.std.specs.List.{All, list_any, Contains}
+use Rattle.std.specs.List.{list_any, Contains}
 use Rattle.std.specs.Map.{lookup, lookup_entry, remove_entry, keys_of}
 use Rattle.std.specs.Option.{option_map, option_map_or, is_some, ForSome}
 use Rattle.std.proofs.lemmas.Map.Made.{is_some-lookup}
-use Rattle.std.proofs.lemmas.Bool.{ne_eqb, eqb-true, cases_lt}
+use Rattle.std.proofs.lemmas.Bool.{ne_eqb, cases_lt}
 use Rattle.std.proofs.lemmas.List.{take-map, take-take, length-map, get_or-take, get_or-drop}
 use Rattle.sealed_pages.specs.View.{view, page_at}
-use Rattle.std.proofs.lemmas.List.Elements.{All-head, All-tail, All-contains, All-append, All-take, All-cons, All-nil}
+use Rattle.std.proofs.lemmas.List.Elements.{All-head, All-tail, All-append, All-take, All-cons, All-nil}
 use Rattle.lru.specs.LruCache.{LruCache, lru_cache, put_entries}
-use Rattle.lru.proofs.CallerLemmas.{Contains-lookup}
 use Rattle.std.proofs.lemmas.Map.Entries.{length-keys_of}
 use Rattle.std.proofs.lemmas.List.{take_all, map-append, drop-drop, take-append-le}
 use Rattle.std.proofs.lemmas.Nat.{div-mul-add}
@@ -19,6 +18,7 @@ use Rattle.sealed_pages.specs.Buffer.{Buffer, cached, AddsPages}
 use Rattle.sealed_pages.specs.declared.cache.PageCache.{PageCache}
 use Rattle.sealed_pages.specs.Cached.{entries_of, held_in, PutsFull, pages_down, full_pages, uncached, AreFull, AreWhole, IsCachedOf, AreCachedOf}
 use Rattle.blob_device.proofs.general.Numbers.{times_next}
+use Rattle.sealed_pages.specs.lemmas.memory.Cache.{found_has}
 
 -- a page in a map, with its data bytes
 abbrev pub page_entry : ℕ × Vec ℕ Global → ℕ × List ℕ
@@ -62,13 +62,6 @@ found_page k (e ∷ es) = by_test (nat_eq k e.0) (found_page k es)
         → cond t (Some e.1.items) (lookup (nat_eq k) (map page_entry es)) ≡ option_map (λ (v : Vec ℕ Global). v.items) (cond t (Some e.1) (lookup (nat_eq k) es))
     by_test true rest = refl
     by_test false rest = rest
-
--- what holds of each page holds of the one that is found
-pub found_has : (Q : ℕ × List ℕ → Type 0) (k : ℕ) (bytes : List ℕ) (es : List (ℕ × List ℕ)) → All Q es → lookup (nat_eq k) es ≡ Some bytes → Q (k, bytes)
-found_has Q k bytes es all found =
-    let has = Contains-lookup (nat_eq k) es bytes found in
-    let same : k ≡ has.0 = eqb-true k has.0 has.2 in
-    subst (λ (j : ℕ). Q (j, bytes)) (sym same) (All-contains Q es (has.0, bytes) all has.1)
 
 pub full_whole : (P first : ℕ) (es : List (ℕ × List ℕ)) → AreFull P first es → AreWhole P es
 full_whole P first es full k d lt = (full k d lt).1
@@ -139,14 +132,6 @@ pub found_bytes : (seal : List ℕ → ℕ) (P : ℕ) (c : List ℕ) (k skip n :
     → (i : ℕ) → i < n → get_or (take n (drop skip bytes)) i 0 ≡ view c (page_at P k + (skip + i))
 found_bytes seal P c k skip n bytes es are found part i lt = get_or-take n (drop skip bytes) i 0 lt ∙ get_or-drop skip bytes i 0 ∙ (found_has (IsCachedOf seal P c) k bytes es are (sym found)).same (skip + i) (omega (arith, lt, part))
 
--- a page that is among them, with what holds of each
-pub found_page_has : (Q : ℕ × List ℕ → Type 0) (k : ℕ) (es : List (ℕ × List ℕ)) → All Q es → list_any (nat_eq k) (keys_of es) ≡ true → (bytes : List ℕ) × Q (k, bytes)
-found_page_has Q k es all has = go (lookup (nat_eq k) es) refl
-  where
-    go : (o : Option (List ℕ)) → lookup (nat_eq k) es ≡ o → (bytes : List ℕ) × Q (k, bytes)
-    go None none = absurd (cc (is_some-lookup (nat_eq k) es, has, ap is_some none))
-    go (Some bytes) some = (bytes, found_has Q k bytes es all some)
-
 -- how many pages are not in memory grows with how many there are
 pub uncached_more : (pages : List ℕ) (k n m : ℕ) → n ≤ m → uncached pages k n ≤ uncached pages k m
 uncached_more pages k n zero le = let e : n ≡ zero = omega (arith, le) in omega (arith, ap (uncached pages k) e)
@@ -154,15 +139,6 @@ uncached_more pages k n (suc m) le = elim (cases_lt n (suc m)) [
   | inl less ↦ omega (arith, uncached_more pages k n m (omega (arith, less)))
   | inr past ↦ (let e : n ≡ suc m = omega (arith, le, past) in omega (arith, ap (uncached pages k) e))
 ]
-
--- where none is in memory, all are not
-pub uncached_most : (pages : List ℕ) (k n : ℕ) → uncached pages k n ≤ n
-uncached_most pages k zero = omega arith
-uncached_most pages k (suc n) = omega (arith, uncached_most pages k n, one (list_any (nat_eq (k + n)) pages))
-  where
-    one : (b : Bool) → cond b 0 1 ≤ 1
-    one true = omega arith
-    one false = omega arith
 
 -- the next page
 pub uncached_next : (pages : List ℕ) (first page : ℕ) → first ≤ page → uncached pages first (page - first) + cond (list_any (nat_eq page) pages) 0 1 ≤ uncached pages first (page + 1 - first)

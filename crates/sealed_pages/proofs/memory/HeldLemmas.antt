@@ -1,25 +1,11 @@
 -- Which bytes of a buffer are in memory.
-use Rattle.std.proofs.Common.{◌≡◌, ◌⊎◌, inl, inr, ℕ, ◌+◌, ◌-◌, ◌*◌, ◌/◌, ◌<◌, ◌≤◌, min, max, true, sym, ◌∙◌, ap, subst, arith}
+use Rattle.std.proofs.Common.{◌≡◌, ◌⊎◌, inl, ℕ, ◌+◌, ◌-◌, ◌/◌, ◌<◌, ◌≤◌, min, subst, arith}
 use Rattle.std.specs.Prelude.{◌↔◌}
 use Rattle.std.proofs.lemmas.Nat.{le-div}
 use Rattle.std.proofs.Math.Nat.{mul-le-mul_right}
-use Rattle.std.proofs.lemmas.Bool.{cases_lt}
-use Rattle.sealed_pages.specs.Buffer.{Buffer, size_of, is_cached}
+use Rattle.sealed_pages.specs.Buffer.{Buffer, size_of}
 use Rattle.sealed_pages.specs.Reads.{IsWanted, IsHeld, below}
-use Rattle.sealed_pages.proofs.looking.ReadLemmas.{page_before}
-use Rattle.blob_device.proofs.general.Numbers.{div_place, times_next}
-
--- the page that has a byte
-pub page_is : (P k i : ℕ) → 0 < P → k * P ≤ i → i < k * P + P → i / P ≡ k
-page_is P k i pos low high =
-    let at = div_place P i pos in
-    let less : i / P < k + 1 = page_before P (i / P) (k + 1) (omega (arith, at.0, high, times_next k P)) in
-    let more : k < i / P + 1 = page_before P k (i / P + 1) (omega (arith, at.1, low, times_next (i / P) P)) in
-    omega (arith, less, more)
-
--- the pages of which a byte is wanted
-pub wanted_low : (P m n k : ℕ) → 0 < P → IsWanted P m n k → m / P ≤ k
-wanted_low P m n k pos w = let less : m / P < k + 1 = page_before P (m / P) (k + 1) (omega (arith, (div_place P m pos).0, w.low, times_next k P)) in omega (arith, less)
+use Rattle.blob_device.proofs.general.Numbers.{div_place}
 
 pub wanted_high : (P m n k : ℕ) → 0 < P → IsWanted P m n k → k < (m + (n - 1)) / P + 1
 wanted_high P m n k pos w = let le : k ≤ (m + (n - 1)) / P = le-div k (m + (n - 1)) P pos (omega (arith, w.high, w.some)) in omega (arith, le)
@@ -33,31 +19,6 @@ wanted_of P m n k pos some low high =
       low = (let le = mul-le-mul_right P low in omega (arith, le, (div_place P m pos).1));
       high = (let le = mul-le-mul_right P (let e : k ≤ (m + (n - 1)) / P = omega (arith, high) in e) in omega (arith, le, (div_place P (m + (n - 1)) pos).0, some));
     }
-
--- where all wanted pages below the tip are in memory, all bytes are
-pub held_from : (u : Buffer) (m n b : ℕ) → 0 < u.page_size → b ≡ below u.page_size u.first m n → m + n ≤ size_of u → ((k : ℕ) → IsWanted u.page_size m b k → is_cached u k ≡ true) → IsHeld u m n
-held_from u m n b pos is fits all i low high = (
-  omega (arith, high, fits),
-  elim (cases_lt i (u.first * u.page_size)) [
-    | inr tip ↦ inl tip
-    | inl under ↦ (let at = div_place u.page_size i pos in inr (all (i / u.page_size) (record {
-      some = omega (arith, is, low, high, under);
-      low = omega (arith, at.1, low);
-      high = omega (arith, at.0, is, high, under);
-    })))
-  ],
-)
-
-pub held_to : (u : Buffer) (m n b : ℕ) → 0 < u.page_size → b ≡ below u.page_size u.first m n → IsHeld u m n → (k : ℕ) → IsWanted u.page_size m b k → is_cached u k ≡ true
-held_to u m n b pos is held k w =
-    let i : ℕ = max m (k * u.page_size) in
-    let inside : max m (k * u.page_size) < m + b = omega (arith, w.high, w.some) in
-    let here = held (max m (k * u.page_size)) (omega arith) (omega (arith, inside, is)) in
-    let page : max m (k * u.page_size) / u.page_size ≡ k = page_is u.page_size k (max m (k * u.page_size)) pos (omega arith) (omega (arith, w.low, pos)) in
-    elim here.1 [
-      | inl tip ↦ absurd (omega (arith, tip, inside, is))
-      | inr has ↦ ap (is_cached u) (sym page) ∙ has
-    ]
 
 -- bytes that are in memory stand below the size
 pub held_fits : (u : Buffer) (m n : ℕ) → 0 < n → IsHeld u m n → m + n ≤ size_of u

@@ -1,22 +1,19 @@
 -- What a buffer holds, after a flush and after an append.
 use Rattle.std.proofs.Common.{◌≡◌, inl, inr, ℕ, ◌+◌, ◌-◌, ◌*◌, ◌/◌, ◌^◌, ◌<◌, ◌≤◌, ◌||◌, Result, Bool, false, List, ◌++◌, length, get_or, take, drop, refl, sym, ◌∙◌, ap, subst, arith, length-append, length-drop}
-use Rattle.std.proofs.Math.Nat.{div-lt_iff_lt-mul}
 use Rattle.std.proofs.lemmas.Nat.{le-div}
 use Rattle.std.proofs.lemmas.List.{get_or_append_left, get_or-append_right, ext_get_or}
 use Rattle.std.proofs.lemmas.Bool.{cases_Bool, cases_lt}
 use Rattle.blob_device.specs.declared.error.DevError.{DevError}
-use Rattle.blob_device.specs.Timeline.{Timeline, disk, Passes}
+use Rattle.blob_device.specs.Timeline.{Timeline, Passes}
 use Rattle.blob_device.specs.Change.{Settle}
-use Rattle.blob_device.specs.Disk.{Key, Blob}
-use Rattle.blob_device.specs.lemmas.Moments.{only_start}
-use Rattle.sealed_pages.proofs.slots.SlotLemmas.{index_page, times_page, page_next}
-use Rattle.sealed_pages.proofs.slots.SealedBytes.{stands_leaves}
-use Rattle.sealed_pages.proofs.adopted.Repairing.{page_order}
-use Rattle.sealed_pages.proofs.adopted.Adopt.{length-data_from, get_or-data_from, place_in}
-use Rattle.sealed_pages.proofs.adopted.Adopting.{adopted_kept}
-use Rattle.sealed_pages.proofs.slots.PageCalls.{part_stands, rest_whole, ready_more, data_more}
-use Rattle.sealed_pages.specs.Buffer.{extent, Fit, Buffer, size_of, flushed_of, bytes_of, State, Holds}
-use Rattle.sealed_pages.specs.ChanceSeal.{Leaves, Sealing}
+use Rattle.blob_device.specs.Disk.{Blob}
+use Rattle.sealed_pages.proofs.slots.SlotLemmas.{index_page}
+use Rattle.sealed_pages.specs.lemmas.adopted.Adopt.{get_or-data_from, length-data_from, place_in}
+use Rattle.sealed_pages.specs.lemmas.adopted.Repairing.{page_order}
+use Rattle.sealed_pages.specs.lemmas.slots.PageCalls.{data_more, ready_more}
+use Rattle.sealed_pages.specs.lemmas.slots.Slot.{page_next}
+use Rattle.sealed_pages.proofs.slots.PageCalls.{part_stands, rest_whole}
+use Rattle.sealed_pages.specs.Buffer.{Fit, Buffer, size_of, flushed_of, bytes_of, State, Holds}
 use Rattle.sealed_pages.specs.Flushing.{Data, Ready}
 use Rattle.sealed_pages.specs.SealedPrefix.{place, data_from}
 use Rattle.sealed_pages.specs.View.{View, view, page_at, StandsAt}
@@ -30,15 +27,6 @@ fit_room P first from tip fit k lt =
     let next : (k + 1) * P ≤ first * P + length tip + (P - 1) = omega (arith, lt, pos, times_next k P) in
     let le : k + 1 ≤ (first * P + length tip + (P - 1)) / P = le-div (k + 1) (first * P + length tip + (P - 1)) P pos next in
     omega (arith, fit.room, page_next P k, page_order (λ x. 0) P (k + 1) ((first * P + length tip + (P - 1)) / P) le)
-
-pub extent_more : (P n : ℕ) → 1 ≤ P → n ≤ extent P n
-extent_more P n pos =
-    let below : n + (P - 1) < ((n + (P - 1)) / P + 1) * P = (div-lt_iff_lt-mul {k = P} {x = n + (P - 1)} {y = (n + (P - 1)) / P + 1} (omega (arith, pos))).0 (omega arith) in
-    omega (arith, below, pos, times_next ((n + (P - 1)) / P) P, times_page P ((n + (P - 1)) / P))
-
--- the length fits
-pub fit_size : (P first from : ℕ) (tip : List ℕ) → Fit P first from tip → first * P + length tip < 2 ^ 64
-fit_size P first from tip fit = omega (arith, fit.room, extent_more P (first * P + length tip) (omega (arith, fit.begun)))
 
 -- full pages at the start of the tip are let go
 pub state_clean : (seal : List ℕ → ℕ) (P : ℕ) (all : List ℕ) (first from L : ℕ) (newest : Bool) (b : Blob) → Ready seal P all (first * P + from) L newest b → State seal P all first from L newest false false b
@@ -99,19 +87,6 @@ holds_more seal u v all more b is holds = subst (λ (x : Buffer). Holds seal x (
   tip_at = stands_more all u.tip more (u.first * u.page_size) holds.tip_at holds.size;
   size = omega (arith, holds.size, length-append all more, length-append u.tip more);
 })
-
--- what a buffer holds outlives a crash now
-pub holds_leaves : (seal : List ℕ → ℕ) (u : Buffer) (all : List ℕ) (b : Blob) → u.from < u.page_size → Holds seal u all b → Leaves seal u.page_size all u.settled b
-holds_leaves seal u all b begun holds = let pos : 1 ≤ u.page_size = omega (arith, begun) in
-    elim (cases_Bool (u.behind || u.torn)) [
-      | inl left ↦ (let a = holds.state.adopted left in
-          let kept = adopted_kept seal u.page_size pos all u.first u.from u.newest u.behind u.torn begun b a.0 in
-          subst (λ (n : ℕ). Leaves seal u.page_size all n b) (sym a.1) (stands_leaves seal u.page_size b.content (flushed_of u) a.0.σ all b pos kept.covers kept.stands))
-      | inr clean ↦ (let ready = holds.state.ready clean in stands_leaves seal u.page_size ready.w u.settled ready.σ all b pos ready.settled ready.stands)
-    ]
-
-pub holds_start : (seal : List ℕ → ℕ) (u : Buffer) (all : List ℕ) (key : Key) (t : Timeline) → u.from < u.page_size → Holds seal u all (disk t key) → Sealing seal u.page_size all u.settled key t t
-holds_start seal u all key t begun holds = only_start t key (Leaves seal u.page_size all u.settled) (holds_leaves seal u all (disk t key) begun holds)
 
 -- what is held is what the buffer means
 pub holds_data : (seal : List ℕ → ℕ) (u : Buffer) (all : List ℕ) (b : Blob) → Holds seal u all b → Data u.page_size all (flushed_of u) (view b.content)
@@ -175,9 +150,6 @@ tip_stands u content = record {
   where
     len_prefix : length (data_from u.page_size (view content) 0 (u.first * u.page_size)) ≡ u.first * u.page_size
     len_prefix = length-data_from u.page_size (view content) (u.first * u.page_size) 0
-
-pub bytes_length : (u : Buffer) (content : List ℕ) → length (bytes_of u content) ≡ size_of u
-bytes_length u content = omega (arith, length-append (data_from u.page_size (view content) 0 (u.first * u.page_size)) u.tip, length-data_from u.page_size (view content) (u.first * u.page_size) 0)
 
 pub settle_as : {T : Type 0} (r : Result T DevError) (p q n m : List ℕ) (t0 t1 : Timeline) → p ≡ q → n ≡ m → Passes (p, n) Settle r t0 t1 → Passes (q, m) Settle r t0 t1
 settle_as r p q n m t0 t1 e f passes = subst (λ (x : List ℕ). Passes (x, m) Settle r t0 t1) e (subst (λ (x : List ℕ). Passes (p, x) Settle r t0 t1) f passes)

@@ -12,7 +12,7 @@ use Rattle.sealed_pages.specs.View.{view, page_at, StandsAt}
 use Rattle.sealed_pages.proofs.slots.CoverLemmas.{cached_spared, cached_put}
 use Rattle.std.proofs.Math.Nat.{mod-eq-sub-div-mul}
 use Rattle.sealed_pages.specs.Readers.{IsTipOf}
-use Rattle.sealed_pages.proofs.memory.HeldLemmas.{page_is}
+use Rattle.sealed_pages.specs.lemmas.memory.Held.{page_is}
 use Rattle.sealed_pages.proofs.memory.Holding.{tip_stands}
 use Rattle.sealed_pages.proofs.Syncing.{flushed_backed}
 

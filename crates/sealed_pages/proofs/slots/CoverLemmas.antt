@@ -15,13 +15,13 @@ use Rattle.sealed_pages.specs.Flushing.{Data, CoversFrom}
 use Rattle.sealed_pages.specs.Slots.{slot_length, page_length, slot_bytes}
 use Rattle.sealed_pages.specs.Unrecovered.{SparedPrefix}
 use Rattle.sealed_pages.specs.View.{view, page_at, slot_at, StandsAt}
-use Rattle.sealed_pages.proofs.looking.Looking.{page_length_is}
+use Rattle.sealed_pages.specs.lemmas.adopted.Repairing.{page_order}
+use Rattle.sealed_pages.specs.lemmas.looking.Looking.{page_length_is}
+use Rattle.sealed_pages.specs.lemmas.slots.SealedBytes.{page_length-le}
+use Rattle.sealed_pages.specs.lemmas.slots.Slot.{page_next, slot_length-le, slot_same, slot_stands}
+use Rattle.sealed_pages.specs.lemmas.slots.SlotSteps.{length-slot_bytes, slot_is, slot_matches}
+use Rattle.sealed_pages.specs.lemmas.slots.Steps.{slot_high}
 use Rattle.sealed_pages.proofs.slots.PageCalls.{page_wrote}
-use Rattle.sealed_pages.proofs.adopted.Repairing.{page_order}
-use Rattle.sealed_pages.proofs.slots.SealedBytes.{page_length-le}
-use Rattle.sealed_pages.proofs.slots.SlotLemmas.{page_next, slot_length-le, slot_stands, slot_same}
-use Rattle.sealed_pages.proofs.slots.SlotSteps.{length-slot_bytes, slot_matches, slot_is}
-use Rattle.sealed_pages.proofs.slots.Steps.{slot_high}
 use Rattle.blob_device.specs.Lengths.{length-written}
 use Rattle.blob_device.proofs.general.Numbers.{times_more, times_next}
 

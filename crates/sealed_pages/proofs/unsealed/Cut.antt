@@ -16,11 +16,12 @@ use Rattle.sealed_pages.specs.unsealed.RunCalls.{FlushesRun, Rests, Shortens, Tr
 use Rattle.sealed_pages.specs.unsealed.Writing.{WriteBuffer, blob_key, bytes_of, size_of, run_of, short_run, KeepsSettled}
 use Rattle.sealed_pages.proofs.unsealed.ContentLemmas.{adds_start, adds_resize, cut_adds, cut_adds_prefix, resize_adds, settle_adds}
 use Rattle.sealed_pages.proofs.unsealed.LastingLemmas.{keeping_of}
-use Rattle.sealed_pages.proofs.looking.Looking.{content_length}
-use Rattle.sealed_pages.proofs.unsealed.SparingLemmas.{sparing_start, sparing_then, sparing_weaker, sparing_resize, loose_resize, loose_start, loose_spared, loose_then}
+use Rattle.sealed_pages.specs.lemmas.looking.Looking.{content_length}
+use Rattle.sealed_pages.specs.lemmas.unsealed.Sparing.{sparing_start, sparing_then, sparing_weaker}
+use Rattle.sealed_pages.specs.lemmas.unsealed.Writing.{idle_bytes}
+use Rattle.sealed_pages.proofs.unsealed.SparingLemmas.{sparing_resize, loose_resize, loose_start, loose_spared, loose_then}
 use Rattle.sealed_pages.proofs.cutting.Truncating.{no_value}
 use Rattle.sealed_pages.proofs.WriteLemmas.{written_cut, resized_within}
-use Rattle.sealed_pages.proofs.unsealed.WritingLemmas.{idle_bytes}
 use Rattle.sealed_pages.proofs.unsealed.Settled.{SettledAs, settled_as}
 use Rattle.blob_device.specs.Lengths.{length-written}
 

@@ -1,29 +1,23 @@
 -- The bytes of a buffer without seals that settled and were not written since.
 use Rattle.std.proofs.Common.{◌≡◌, ◌⊎◌, inl, inr, ℕ, zero, suc, ◌+◌, ◌-◌, ◌<◌, ◌≤◌, false, List, [], ◌∷◌, length, get_or, take, sym, ◌∙◌, ap, subst, arith, length-take}
-use Rattle.std.proofs.lemmas.Bool.{cases_lt}
 use Rattle.std.proofs.lemmas.List.{get_or-take}
 use Rattle.blob_device.specs.Change.{written}
 use Rattle.blob_device.specs.Disk.{Key, Blob, Outside, shortest, settled_at}
 use Rattle.blob_device.specs.Keeps.{Keeps}
 use Rattle.blob_device.specs.Timeline.{Timeline, disk, OnlyAt}
 use Rattle.blob_device.specs.lemmas.Bytes.{written_end}
-use Rattle.blob_device.proofs.GuardsLemmas.{guards_settled}
+use Rattle.blob_device.specs.lemmas.Guards.{guards_settled}
 use Rattle.blob_device.specs.lemmas.Moments.{always_weaker, always_now}
 use Rattle.sealed_pages.specs.Sparing.{Lasts, Spares, Sparing, Keeping}
 use Rattle.sealed_pages.specs.unsealed.Writing.{WriteBuffer, bytes_of, run_of, Joins, HoldsOnly, with_bytes_put, Over, KeepsSettled}
 use Rattle.blob_device.specs.Lengths.{length-written}
 use Rattle.blob_device.specs.Places.{written_out}
+use Rattle.sealed_pages.specs.lemmas.unsealed.Lasting.{nowhere, outside_none}
 
 -- each place below a bound is below another, so the bound is
 below_all : (n m : ℕ) → ((i : ℕ) → i < n → i < m) → n ≤ m
 below_all zero m each = omega arith
 below_all (suc n) m each = omega (arith, each n (omega arith))
-
-nowhere : (at i : ℕ) → (i < at) ⊎ (at + 0 ≤ i)
-nowhere at i = elim (cases_lt i at) [ inl before ↦ inl before | inr from ↦ inr (omega (arith, from)) ]
-
-pub outside_none : (r : WriteBuffer) → r.pending ≡ [] → (i : ℕ) → Outside (run_of r ∷ []) i
-outside_none r none i = (subst (λ (l : List ℕ). (i < r.at) ⊎ (r.at + length l ≤ i)) (sym none) (nowhere r.at i), tt)
 
 module _ (u : WriteBuffer) (b : Blob) (kept : KeepsSettled u b) (m : ℕ) (few : m ≤ u.settled) where
   prefix : List ℕ

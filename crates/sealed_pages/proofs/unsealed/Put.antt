@@ -19,7 +19,7 @@ use Rattle.sealed_pages.specs.unsealed.RunCalls.{FlushesRun, Moves, WritesAt}
 use Rattle.sealed_pages.specs.unsealed.Writing.{WriteBuffer, blob_key, bytes_of, size_of, run_of, is_idle, Joins, StaysBelow, HoldsOnly, with_bytes_put, KeepsSettled}
 use Rattle.sealed_pages.proofs.unsealed.ContentLemmas.{adds_start, adds_one, adds_put}
 use Rattle.sealed_pages.proofs.unsealed.LastingLemmas.{keeping_of, keeping_now, kept_after, apart_after, put_holds}
-use Rattle.sealed_pages.proofs.unsealed.SparingLemmas.{sparing_start, sparing_weaker}
+use Rattle.sealed_pages.specs.lemmas.unsealed.Sparing.{sparing_start, sparing_weaker}
 use Rattle.sealed_pages.proofs.unsealed.Tails.{tail_kept, tail_flushed, put_run}
 use Rattle.sealed_pages.proofs.cutting.Truncating.{no_value}
 use Rattle.sealed_pages.proofs.unsealed.WritingLemmas.{put_joins, put_bytes, put_below, put_spares, written_last}

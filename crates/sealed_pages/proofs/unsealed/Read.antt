@@ -7,7 +7,7 @@ use Rattle.blob_device.specs.declared.runtime.RError.TheVariants.{BlobInsufficie
 use Rattle.sealed_pages.specs.Calls.{FailsBelow}
 use Rattle.sealed_pages.specs.unsealed.RunCalls.{ReadsAt}
 use Rattle.sealed_pages.specs.unsealed.Writing.{WriteBuffer, size_of}
-use Rattle.sealed_pages.proofs.looking.Looking.{unchanged_start}
+use Rattle.sealed_pages.specs.lemmas.looking.Looking.{unchanged_start}
 use Rattle.sealed_pages.proofs.cutting.Truncating.{no_value}
 
 pub read_refused : {D T : Type 0} (dev : device.Ghosts D) (u : WriteBuffer) (offset : ℕ) (room got : List ℕ) (d : D) (r : Result T RError) → IsErr r

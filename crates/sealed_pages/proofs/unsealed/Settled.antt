@@ -4,7 +4,7 @@ use Rattle.blob_device.specs.Change.{written}
 use Rattle.blob_device.specs.Disk.{Blob, settled_at}
 use Rattle.sealed_pages.specs.unsealed.Writing.{WriteBuffer, bytes_of, Over, KeepsSettled}
 use Rattle.sealed_pages.proofs.unsealed.LastingLemmas.{kept_clean}
-use Rattle.sealed_pages.proofs.WriteLemmas.{written_nothing}
+use Rattle.sealed_pages.specs.lemmas.Write.{written_nothing}
 use Rattle.sealed_pages.proofs.unsealed.WritingLemmas.{over_settled}
 
 -- the blob has settled with these bytes, and the buffer means them

@@ -15,10 +15,12 @@ use Rattle.sealed_pages.specs.unsealed.RunCalls.{FlushesRun, Rests, Syncs}
 use Rattle.sealed_pages.specs.unsealed.Writing.{WriteBuffer, blob_key, bytes_of, size_of, run_of, is_unsettled, Over, KeepsSettled}
 use Rattle.sealed_pages.proofs.unsealed.ContentLemmas.{adds_start, adds_write, adds_rested}
 use Rattle.sealed_pages.proofs.unsealed.LastingLemmas.{keeping_of}
-use Rattle.sealed_pages.proofs.looking.Looking.{content_length}
-use Rattle.sealed_pages.proofs.unsealed.SparingLemmas.{sparing_start, sparing_write}
+use Rattle.sealed_pages.specs.lemmas.looking.Looking.{content_length}
+use Rattle.sealed_pages.specs.lemmas.unsealed.Sparing.{sparing_start}
+use Rattle.sealed_pages.specs.lemmas.unsealed.Writing.{idle_bytes, idle_parts, settled_parts}
+use Rattle.sealed_pages.proofs.unsealed.SparingLemmas.{sparing_write}
 use Rattle.sealed_pages.proofs.cutting.Truncating.{no_value}
-use Rattle.sealed_pages.proofs.unsealed.WritingLemmas.{idle_parts, idle_bytes, settled_parts, flushed_rests}
+use Rattle.sealed_pages.proofs.unsealed.WritingLemmas.{flushed_rests}
 use Rattle.sealed_pages.proofs.unsealed.Settled.{SettledAs, settled_as}
 
 -- What they have done to the blob of the buffer u by some time.

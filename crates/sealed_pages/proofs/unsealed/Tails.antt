@@ -1,9 +1,10 @@
 -- What stays unflushed behind an append.
-use Rattle.std.proofs.Common.{◌≡◌, ◌⊎◌, inl, inr, ℕ, ◌+◌, ◌-◌, ◌<◌, ◌≤◌, ◌&&◌, cond, max, leb, ltb, List, [], length, ◌∙◌, sym, ap, arith}
+use Rattle.std.proofs.Common.{◌≡◌, ◌⊎◌, inl, inr, ℕ, ◌+◌, ◌-◌, ◌<◌, ◌≤◌, ◌&&◌, cond, max, leb, ltb, List, [], length, ◌∙◌, ap, arith}
 use Rattle.std.proofs.lemmas.Bool.{cases_lt, cond_below, cond_above, cond-true, cond-false, and_parts, and_from, leb-true, le-leb, false_from_ne_true}
 use Rattle.sealed_pages.specs.Tails.{tail_after, run_with, run_at_end}
-use Rattle.sealed_pages.specs.unsealed.Writing.{WriteBuffer, size_of, Joins, StandsBehind, with_bytes_put}
+use Rattle.sealed_pages.specs.unsealed.Writing.{WriteBuffer, size_of, Joins, with_bytes_put}
 use Rattle.blob_device.specs.Lengths.{length-written}
+use Rattle.sealed_pages.specs.lemmas.unsealed.Tails.{end_apart, end_joined}
 
 -- below the capacity nothing is flushed
 pub tail_kept : (capacity tail added n : ℕ) → n ≡ tail + added → n < capacity → n ≡ tail_after capacity tail added
@@ -26,14 +27,6 @@ run_apart u offset n apart = cond-false (leb u.at offset && leb offset (u.at + l
     let parts = and_parts (leb u.at offset) (leb offset (u.at + length u.pending)) e in
     apart (record { low = leb-true u.at offset parts.0; high = leb-true offset (u.at + length u.pending) parts.1 })))
 
-pub end_joined : (u : WriteBuffer) → u.end ≤ u.at + length u.pending → run_at_end u ≡ length u.pending
-unfolding run_at_end
-end_joined u behind = cond-true (leb u.end (u.at + length u.pending)) (length u.pending) 0 (le-leb u.end (u.at + length u.pending) behind)
-
-pub end_apart : (u : WriteBuffer) → u.at + length u.pending < u.end → run_at_end u ≡ 0
-unfolding run_at_end
-end_apart u before = cond-false (leb u.end (u.at + length u.pending)) (length u.pending) 0 (false_from_ne_true _ (λ e. omega (arith, leb-true u.end (u.at + length u.pending) e, before)))
-
 -- at the end of the bytes the run is what an append joins, with them
 pub run_appended : (u : WriteBuffer) (n : ℕ) → run_with u (size_of u) n ≡ run_at_end u + n
 run_appended u n = go (cases_lt (u.at + length u.pending) u.end)
@@ -41,15 +34,6 @@ run_appended u n = go (cases_lt (u.at + length u.pending) u.end)
     go : (u.at + length u.pending < u.end) ⊎ (u.end ≤ u.at + length u.pending) → run_with u (size_of u) n ≡ run_at_end u + n
     go (inl before) = run_apart u (size_of u) n (λ joins. omega (arith, joins.high, before)) ∙ omega (arith, end_apart u before)
     go (inr behind) = run_joined u (size_of u) n (record { low = omega (arith, behind); high = omega (arith, behind) }) ∙ omega (arith, behind, end_joined u behind)
-
--- where nothing is pending below the end of the blob, an append joins all that is
-pub end_behind : (u : WriteBuffer) → StandsBehind u → run_at_end u ≡ length u.pending
-end_behind u (inl low) = end_joined u (omega (arith, low))
-end_behind u (inr none) = go (cases_lt (u.at + length u.pending) u.end)
-  where
-    go : (u.at + length u.pending < u.end) ⊎ (u.end ≤ u.at + length u.pending) → run_at_end u ≡ length u.pending
-    go (inl before) = end_apart u before ∙ sym none
-    go (inr behind) = end_joined u behind
 
 -- only the sum counts
 same_after : (capacity t a u b : ℕ) → t + a ≡ u + b → tail_after capacity t a ≡ tail_after capacity u b

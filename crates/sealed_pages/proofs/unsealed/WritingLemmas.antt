@@ -1,6 +1,6 @@
 -- A buffer over a blob without seals, after each of its calls of the device.
-use Rattle.std.proofs.Common.{◌≡◌, ◌⊎◌, inl, inr, ℕ, ◌+◌, ◌-◌, ◌<◌, ◌≤◌, ◌||◌, ◌&&◌, not, max, eqb, leb, Bool, true, false, List, [], ◌∷◌, ◌++◌, length, Option, Some, None, Result, Ok, refl, sym, ◌∙◌, ap, subst, arith}
-use Rattle.std.proofs.lemmas.Bool.{and_parts, eqb-true, leb-true, eq-eqb, le-leb}
+use Rattle.std.proofs.Common.{◌≡◌, ◌⊎◌, inl, inr, ℕ, ◌+◌, ◌-◌, ◌<◌, ◌≤◌, ◌&&◌, max, leb, Bool, true, List, [], ◌∷◌, ◌++◌, length, Option, Some, None, Result, Ok, refl, sym, ◌∙◌, ap, subst, arith}
+use Rattle.std.proofs.lemmas.Bool.{eq-eqb, le-leb}
 use Rattle.blob_device.specs.declared.error.DevError.{DevError}
 use Rattle.blob_device.specs.Disk.{Key, Blob, Outside, settled_at}
 use Rattle.blob_device.specs.Change.{Write, written}
@@ -14,34 +14,17 @@ use Rattle.blob_device.specs.lemmas.Moments.{ok_blob}
 use Rattle.sealed_pages.specs.Contents.{IsHad}
 use Rattle.sealed_pages.specs.Entries.{IsOpenAt, NoReads, ReadsAtMost}
 use Rattle.sealed_pages.specs.Sparing.{Lasts, Spares, Sparing}
-use Rattle.sealed_pages.proofs.unsealed.SparingLemmas.{sparing_then, sparing_weaker}
-use Rattle.sealed_pages.specs.unsealed.Writing.{WriteBuffer, blob_key, bytes_of, size_of, run_of, is_idle, is_unsettled, Joins, StaysBelow, with_bytes_put, Over}
-use Rattle.sealed_pages.proofs.HadLemmas.{had_rest}
+use Rattle.sealed_pages.specs.lemmas.Had.{had_rest}
+use Rattle.sealed_pages.specs.lemmas.Write.{written_nothing}
+use Rattle.sealed_pages.specs.lemmas.unsealed.Sparing.{sparing_then, sparing_weaker}
+use Rattle.sealed_pages.specs.unsealed.Writing.{WriteBuffer, blob_key, bytes_of, size_of, run_of, is_idle, Joins, StaysBelow, with_bytes_put, Over}
 use Rattle.sealed_pages.specs.lemmas.Entries.{open_some, open_updated, no_reads_part, no_reads_updated, no_reads_resize, open_written, open_resized}
-use Rattle.sealed_pages.proofs.WriteLemmas.{written_nothing, written_again, written_twice}
+use Rattle.sealed_pages.proofs.WriteLemmas.{written_again, written_twice}
 use Rattle.blob_device.specs.Lengths.{length-written}
-
-empty : (l : List ℕ) → length l ≡ 0 → l ≡ []
-empty [] e = refl
-empty (x ∷ xs) e = absurd (omega (arith, e))
-
-pub idle_parts : (u : WriteBuffer) → is_idle u ≡ true → (u.pending ≡ []) × (u.at ≤ u.end)
-idle_parts u is = let parts = and_parts (eqb (length u.pending) 0) (leb u.at u.end) is in (empty u.pending (eqb-true (length u.pending) 0 parts.0), leb-true u.at u.end parts.1)
+use Rattle.sealed_pages.specs.lemmas.unsealed.Writing.{idle_parts}
 
 pub idle_of : (u : WriteBuffer) → u.pending ≡ [] → u.at ≤ u.end → is_idle u ≡ true
 idle_of u none within = ap (λ (b : Bool). b && leb u.at u.end) (eq-eqb (length u.pending) 0 (ap length none)) ∙ le-leb u.at u.end within
-
-pub settled_parts : (u : WriteBuffer) → is_unsettled u ≡ false → (u.dirty ≡ false) × (is_idle u ≡ true)
-settled_parts u is = go u.dirty (is_idle u) is
-  where
-    go : (d i : Bool) → (d || not i) ≡ false → (d ≡ false) × (i ≡ true)
-    go true i e = absurd (cc e)
-    go false true e = (refl, refl)
-    go false false e = absurd (cc e)
-
--- with nothing to flush, the bytes are the content
-pub idle_bytes : (u : WriteBuffer) (c : List ℕ) → is_idle u ≡ true → length c ≡ u.end → bytes_of u c ≡ c
-idle_bytes u c is long = let parts = idle_parts u is in ap (written c u.at) parts.0 ∙ written_nothing c u.at (omega (arith, parts.1, long))
 
 pub flushed_bytes : (c now run rest : List ℕ) (at : ℕ) → now ≡ written c at run → rest ≡ [] → written now at rest ≡ written c at run
 flushed_bytes c now run rest at is none = ap (written now at) none ∙ written_nothing now at (omega (arith, ap length is, length-written c at run)) ∙ is

@@ -1,9 +1,8 @@
 -- What the calls of a buffer whose pages carry seals leave of its section.
-use Rattle.std.proofs.Common.{◌≡◌, ◌≢◌, ◌⊎◌, inl, inr, ℕ, ◌<◌, ◌≤◌, min, List, length, Result, Ok, Err, sym, ◌∙◌, ap, subst, arith}
-use Rattle.std.specs.Prelude.{IfOk, IsOkAnd, OnOk, OnErr}
+use Rattle.std.proofs.Common.{◌≡◌, inl, inr, ℕ, ◌<◌, ◌≤◌, min, List, length, Result, Ok, Err, sym, ◌∙◌, ap, subst, arith}
+use Rattle.std.specs.Prelude.{IfOk, IsOkAnd, OnOk}
 use Rattle.std.proofs.lemmas.Bool.{cases_lt}
 use Rattle.blob_device.specs.declared.runtime.RError.{RError}
-use Rattle.blob_device.specs.declared.runtime.RError.TheVariants.{Fault, InvalidChecksum, Mem}
 use Rattle.blob_device.specs.Disk.{Key}
 use Rattle.blob_device.specs.Timeline.{Timeline, disk}
 use Rattle.sealed_pages.specs.Buffer.{Buffer, size_of, bytes_of, IsBacked, IsSealed}
@@ -14,9 +13,9 @@ use Rattle.sealed_pages.specs.declared.page_blob.PageBlob.{PageBlob}
 use Rattle.sealed_pages.specs.SealedPrefix.{sealed_prefix, adopted_size}
 use Rattle.sealed_pages.specs.Shown.{shown}
 use Rattle.sealed_pages.specs.Unrecovered.{KeepsPrefix, IsUnrecovered, IsRecovery, IsAdopted, IsSafeCut}
-use Rattle.sealed_pages.proofs.cutting.Calls.{sealing_less}
-use Rattle.sealed_pages.proofs.slots.PageCalls.{only_weaker}
-use Rattle.sealed_pages.proofs.UnrecoveredLemmas.{keeps_sealing}
+use Rattle.sealed_pages.specs.lemmas.Unrecovered.{keeps_sealing}
+use Rattle.sealed_pages.specs.lemmas.cutting.Calls.{sealing_less}
+use Rattle.sealed_pages.specs.lemmas.slots.PageCalls.{only_weaker}
 use Rattle.section_manager.specs.Leaving.{Leaves, AllMoments}
 use Rattle.section_manager.specs.Sealed.{adopted_bytes, Stands, MayKeep}
 use Rattle.section_manager.specs.SealedLaws.{sealed_keeps, unrecovered_keeps, again}
@@ -114,14 +113,6 @@ module _ (seal : List ℕ → ℕ) (u : Buffer) (key : Key) (old new : Timeline)
         | inr past ↦ absurd (omega (arith, cuts, past))
       ]
     ]
-
--- an answer that has another cause names no page
-pub sound_page : {T : Type 0} (r : Result T RError) (page : ℕ) (A : Type 0) → OnErr r ((r ≡ Err Mem) ⊎ ((r ≡ Err Fault) × A)) → r ≢ Err (InvalidChecksum page)
-sound_page (Ok v) page A cause is = absurd (cc is)
-sound_page (Err e) page A cause is = elim cause [
-  | inl mem ↦ absurd (cc (mem, is))
-  | inr fault ↦ absurd (cc (fault.0, is))
-]
 
 -- adopting gives the bytes of the blob
 pub adopts_bytes : {S : Type 0} {g : _} (seal : List ℕ → ℕ) (P : ℕ) (content : List ℕ) (r : Result (PageBlob S g) RError) → IfOk r (λ v. v.page_size ≡ P) → IfOk r (λ v. v.settled ≡ size_of (shown v))

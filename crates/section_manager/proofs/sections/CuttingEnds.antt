@@ -26,13 +26,17 @@ use Rattle.section_manager.specs.Refusing.{HasDamage, HasFailed, IsPruned}
 use Rattle.section_manager.specs.Sections.{Sections, section_key, key_of, IsCut, IsKnown, IsOver, IsSame, SameBounds}
 use Rattle.section_manager.specs.Setting.{Setting}
 use Rattle.section_manager.specs.lemmas.Seen.{failed_again, failed_later, failed_unpruned}
-use Rattle.section_manager.proofs.sections.CutLemmas.{CutCall, CutMade, CutTried, CutWalked, cut_moves, cut_new, cut_same, cut_tried_start, cutting_of, leaves_few, longer_none, not_below, raised_page, some_has}
+use Rattle.section_manager.proofs.sections.CutLemmas.{raised_page, some_has}
 use Rattle.section_manager.specs.lemmas.Keys.{keys_differ}
-use Rattle.section_manager.proofs.sections.RemoveLemmas.{gone_then, none_known, over_bounds, removing_start, same_then}
-use Rattle.section_manager.proofs.sections.SyncLemmas.{BufferLaws, key_is, moments_of, entries_of, over_replaced, same_moments, stands_before}
-use Rattle.section_manager.proofs.sections.TruncateLemmas.{leave_unread, removing_truncating, some_so, target_stays, truncating_moments, unread_then}
+use Rattle.section_manager.proofs.sections.RemoveLemmas.{none_known, over_bounds, removing_start}
+use Rattle.section_manager.proofs.sections.SyncLemmas.{key_is, moments_of, entries_of, over_replaced, same_moments, stands_before}
+use Rattle.section_manager.proofs.sections.TruncateLemmas.{leave_unread, removing_truncating, some_so, target_stays, truncating_moments}
 use Rattle.blob_device.proofs.general.Options.{has_value, some_same}
 use Rattle.blob_device.proofs.general.Results.{if_ok_weaker, ok_with, on_err}
+use Rattle.section_manager.specs.lemmas.sections.Cut.{CutCall, CutMade, CutTried, CutWalked, cut_moves, cut_new, cut_same, cut_tried_start, cutting_of, leaves_few, longer_none, not_below}
+use Rattle.section_manager.specs.lemmas.sections.Remove.{gone_then, same_then}
+use Rattle.section_manager.specs.lemmas.sections.Sync.{BufferLaws}
+use Rattle.section_manager.specs.lemmas.sections.Truncate.{unread_then}
 
 -- what a failed cut says of its cause
 pub cut_unpruned : {T U : Type 0} (e : Error) (floor before now : ℕ) → HasDamage {T = T} (Err e) ⊎ HasFailed {T = T} (Err e) before now → IsPruned {T = U} (Err e) floor → ⊥

@@ -9,7 +9,8 @@ use Rattle.blob_device.specs.Opened.{OpenedList, reads_of}
 use Rattle.blob_device.specs.Timeline.{disk}
 use Rattle.blob_device.specs.declared.device.Device as device
 use Rattle.sealed_pages.specs.Reading.{Unchanged}
-use Rattle.sealed_pages.proofs.looking.Looking.{unchanged_now}
+use Rattle.sealed_pages.specs.lemmas.looking.Looking.{unchanged_now}
+use Rattle.section_manager.specs.lemmas.Init.{settling_after, settling_start, settling_unchanged}
 use Rattle.section_manager.specs.declared.buffer.SectionBuffer as buffer
 use Rattle.section_manager.specs.declared.journal.Error.{Error}
 use Rattle.section_manager.specs.declared.journal.Error.TheVariants.{InvalidBlobName, Mem}
@@ -19,7 +20,7 @@ use Rattle.section_manager.specs.managing.Opening.{Inits, OpensEach, OpensFound}
 use Rattle.section_manager.specs.Refusing.{HasFailed, IsForeign}
 use Rattle.section_manager.specs.Sections.{Sections, section_key, key_of, IsHeld, IsKnown, IsOver}
 use Rattle.section_manager.specs.Setting.{Setting}
-use Rattle.section_manager.proofs.InitLemmas.{Found, Opened, above_unopened, found_over, held_wanted, listed_there, none_foreign, none_leftover, opened_as, settling_after, settling_start, settling_unchanged, there_listed, unopened_above}
+use Rattle.section_manager.proofs.InitLemmas.{Found, Opened, above_unopened, found_over, held_wanted, listed_there, none_foreign, none_leftover, opened_as, there_listed, unopened_above}
 use Rattle.section_manager.specs.lemmas.Seen.{failed_again, failed_unnamed}
 use Rattle.blob_device.proofs.general.Results.{if_ok_weaker, on_err}
 

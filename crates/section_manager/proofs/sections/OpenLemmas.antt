@@ -13,7 +13,8 @@ use Rattle.blob_device.specs.lemmas.Puts.{put_same, same_or_other}
 use Rattle.sealed_pages.specs.Cutting.{IsAtRest}
 use Rattle.sealed_pages.specs.Entries.{IsOpenAt}
 use Rattle.sealed_pages.specs.Reading.{Unchanged}
-use Rattle.sealed_pages.proofs.looking.Looking.{unchanged_now}
+use Rattle.sealed_pages.specs.lemmas.looking.Looking.{unchanged_now}
+use Rattle.section_manager.specs.lemmas.sections.Over.{known_same, over_changed, same_key}
 use Rattle.section_manager.specs.declared.buffer.SectionBuffer as buffer
 use Rattle.section_manager.specs.Entries.{OnlyOwnEntry, StartsNoRead}
 use Rattle.section_manager.specs.Lasting.{IsOpening}
@@ -21,7 +22,6 @@ use Rattle.section_manager.specs.Leaving.{AllMoments}
 use Rattle.section_manager.specs.Refusing.{IsPruned}
 use Rattle.section_manager.specs.Sections.{Sections, key_of, IsKnown, IsSame, SameBounds, StandsOver, IsOver}
 use Rattle.section_manager.specs.Setting.{Setting}
-use Rattle.section_manager.proofs.sections.OverLemmas.{same_key, known_same, over_changed}
 
 -- The blob at k is made, by a call that names it p.
 module _ (k p : Key) (is : p ≡ k) (a b : Timeline) where

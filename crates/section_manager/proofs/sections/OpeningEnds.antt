@@ -25,7 +25,7 @@ use Rattle.section_manager.specs.Sections.{Sections, key_of, HasOpened, IsHeld, 
 use Rattle.section_manager.specs.Setting.{Setting}
 use Rattle.section_manager.specs.lemmas.Seen.{failed_again, failed_unpruned}
 use Rattle.section_manager.proofs.sections.OpenLemmas.{same_sections, unopened_over}
-use Rattle.section_manager.proofs.sections.OverLemmas.{over_changed, same_key}
+use Rattle.section_manager.specs.lemmas.sections.Over.{over_changed, same_key}
 use Rattle.blob_device.proofs.general.Options.{some_same}
 
 module _ {F B D : Type 0} (g : buffer.Ghosts B) (gives : F → Setting) (dev : device.Ghosts D) (m : Sections F B) (s : ℕ) (old : D)

@@ -18,8 +18,9 @@ use Rattle.section_manager.specs.Refusing.{HasFailed, IsPruned}
 use Rattle.section_manager.specs.Sections.{Sections, key_of, IsGone, IsHeld, IsKeyOf, IsKnown, IsOver}
 use Rattle.section_manager.specs.Setting.{Setting}
 use Rattle.section_manager.specs.lemmas.Seen.{failed_again, failed_unpruned}
-use Rattle.section_manager.proofs.sections.OverLemmas.{same_key}
-use Rattle.section_manager.proofs.sections.RemoveLemmas.{below_doomed, doomed_below, entries_as, gone_unknown, moments_as, none_known, over_bounds, pruned_flag, removing_start}
+use Rattle.section_manager.specs.lemmas.sections.Over.{same_key}
+use Rattle.section_manager.specs.lemmas.sections.Remove.{gone_unknown}
+use Rattle.section_manager.proofs.sections.RemoveLemmas.{below_doomed, doomed_below, entries_as, moments_as, none_known, over_bounds, pruned_flag, removing_start}
 
 module _ {F B D : Type 0} (g : buffer.Ghosts B) (gives : F → Setting) (dev : device.Ghosts D) (m : Sections F B) (old : D) where
   -- ---- one blob

@@ -16,9 +16,10 @@ use Rattle.section_manager.specs.Refusing.{HasFailed, IsPruned}
 use Rattle.section_manager.specs.Sections.{Sections, key_of, IsOver, IsSame, IsSynced, SameBounds}
 use Rattle.section_manager.specs.Setting.{Setting}
 use Rattle.section_manager.specs.lemmas.Seen.{failed_later, failed_unpruned}
-use Rattle.section_manager.proofs.sections.SyncLemmas.{BufferLaws, key_is, moments_of, entries_of, over_replaced, same_moments, stands_before, sync_tried_start, synced_new, synced_same, syncing_all, syncing_of, SyncMakes, SyncTried, SyncTries, SyncWalked}
+use Rattle.section_manager.proofs.sections.SyncLemmas.{key_is, moments_of, entries_of, over_replaced, same_moments, stands_before, sync_tried_start, synced_new, synced_same, syncing_all, syncing_of, SyncMakes, SyncTried, SyncTries, SyncWalked}
 use Rattle.blob_device.proofs.general.Options.{has_value, some_same}
 use Rattle.blob_device.proofs.general.Results.{if_ok_weaker}
+use Rattle.section_manager.specs.lemmas.sections.Sync.{BufferLaws}
 
 module _ {F B D : Type 0} (g : buffer.Ghosts B) (gives : F → Setting) (dev : device.Ghosts D) (laws : BufferLaws g) (m : Sections F B) (old : D)
     (over : IsOver g gives dev.Tells m (dev.opened old) (disk (dev.time old))) where

@@ -1,5 +1,5 @@
 -- What one call on the buffer of one section makes of a manager, and what syncs do.
-use Rattle.std.specs.Prelude.{⊤, ◌≡◌, ◌≢◌, ◌⊎◌, ℕ, ◌<◌, ◌≤◌, Bool, true, false, ◌+◌, List, [], ◌∷◌, ◌++◌, length, take, get_or, Some, IsSome}
+use Rattle.std.specs.Prelude.{⊤, ◌≡◌, ◌≢◌, ◌⊎◌, ℕ, ◌<◌, Bool, true, false, ◌+◌, List, [], ◌∷◌, ◌++◌, length, take, get_or, Some, IsSome}
 use Rattle.std.proofs.Common.{inl, inr, refl, sym, ◌∙◌, ap, subst, arith}
 use Rattle.std.specs.List.{Contains}
 use Rattle.std.proofs.lemmas.List.{take_more}
@@ -11,26 +11,18 @@ use Rattle.blob_device.specs.Timeline.{Timeline, disk, Always, Each}
 use Rattle.blob_device.specs.lemmas.Moments.{always_now, always_weaker, only_start}
 use Rattle.sealed_pages.specs.Cutting.{IsAtRest}
 use Rattle.sealed_pages.specs.Entries.{IsOpenAt}
-use Rattle.sealed_pages.proofs.slots.PageCalls.{only_weaker}
+use Rattle.sealed_pages.specs.lemmas.slots.PageCalls.{only_weaker}
+use Rattle.section_manager.specs.lemmas.Walk.{Makes, Rules, Tried, Tries, Walked, Walking, tried_more, tried_start, walked_more, walked_start}
+use Rattle.section_manager.specs.lemmas.sections.Over.{HasOpenedAt, StandsAt, over_changed, same_key}
 use Rattle.section_manager.specs.declared.buffer.SectionBuffer as buffer
 use Rattle.section_manager.specs.Entries.{OnlyOwnEntry}
 use Rattle.section_manager.specs.Leaving.{Leaves, AllMoments}
 use Rattle.section_manager.specs.Setting.{Setting}
 use Rattle.section_manager.specs.Sections.{Sections, key_of, IsHeld, IsSame, SameBounds, IsOver, IsSynced}
 use Rattle.section_manager.specs.Lasting.{Syncing}
-use Rattle.section_manager.proofs.sections.OverLemmas.{same_key, HasOpenedAt, StandsAt, over_changed}
-use Rattle.section_manager.proofs.WalkLemmas.{Rules, Tries, Makes, Tried, Walked, Walking, tried_start, walked_start, tried_more, walked_more}
 use Rattle.blob_device.proofs.general.Lists.{contains_or_not}
 use Rattle.blob_device.proofs.general.Options.{some_same}
-
--- what is known of each buffer
-pub record BufferLaws {B : Type 0} (g : buffer.Ghosts B) : Type 0 where
-  pub passes : (u : B) (b : Blob) → g.Stands u b → Leaves (g.NoChanceSeal u) (g.MayKeep u b (g.settled u)) b
-  pub looser : (u : B) (b : Blob) (few more : ℕ) (contents : List (List ℕ)) (c : List ℕ) → few ≤ more → g.MayKeep u b more contents c → g.MayKeep u b few contents c
-  pub counted : (u : B) (b : Blob) → g.Stands u b → length (g.bytes u b.content) ≡ g.byte_count u
-  pub all_settled : (u : B) → g.unsettled u ≡ false → g.settled u ≡ g.byte_count u
-  pub rested : (u : B) (b : Blob) → g.Stands u b → g.unsettled u ≡ false → IsAtRest b
-  pub found_again : (u : B) (b : Blob) → g.Stands u b → g.IsWhole u b → g.unsettled u ≡ false → g.holds (g.setting u) b.content ≡ g.bytes u b.content
+use Rattle.section_manager.specs.lemmas.sections.Sync.{BufferLaws}
 
 module _ {F B : Type 0} (g : buffer.Ghosts B) (gives : F → Setting) (told : Type 0) (m : Sections F B) (old : OpenedList) (s : ℕ) (u : B) (was : m.held s ≡ Some u) where
   -- the same facts by the blob's key, and by any buffer that is held in the section

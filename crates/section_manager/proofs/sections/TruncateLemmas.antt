@@ -26,9 +26,6 @@ leave_unread P old new leave q = elim (leave q) [
   | inr gone ↦ omega (arith, ap reads_of gone.1)
 ]
 
-pub unread_then : (a b c : OpenedList) → StartsNoRead a b → StartsNoRead b c → StartsNoRead a c
-unread_then a b c first second q = omega (arith, first q, second q)
-
 module _ {F B : Type 0} (g : buffer.Ghosts B) (m : Sections F B) (target n : ℕ) where
   some_longer : (o : Option B) → IsSomeAnd o (λ u. n < g.byte_count u) ⊎ (IsSomeAnd o (λ u. n < g.byte_count u) → ⊥)
   some_longer None = inr (λ is. is)

@@ -6,7 +6,7 @@ use Rattle.std.proofs.lemmas.Bool.Decides.{nat_tests}
 use Rattle.std.proofs.lemmas.List.Elements.{recursion_from_All, All-contains_itself}
 use Rattle.blob_device.specs.Change.{written}
 use Rattle.blob_device.specs.Disk.{Blob, past}
-use Rattle.sealed_pages.proofs.WriteLemmas.{written_nothing}
+use Rattle.sealed_pages.specs.lemmas.Write.{written_nothing}
 use Rattle.sealed_pages.specs.declared.write_blob.WriteBlob.{WriteBlob}
 use Rattle.sealed_pages.specs.Cutting.{IsAtRest}
 use Rattle.section_manager.specs.Leaving.{Leaves}

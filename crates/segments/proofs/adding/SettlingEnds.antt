@@ -10,8 +10,9 @@ use Rattle.section_manager.specs.managing.Settling as sections
 use Rattle.section_manager.specs.lemmas.Seen.{err_same, failed_again}
 use Rattle.segments.specs.FixedLists.{Lists, IsJournal}
 use Rattle.segments.specs.FixedSettling.{Settles}
-use Rattle.segments.proofs.held.Passing.{guard_ok}
-use Rattle.segments.proofs.adding.WriteLemmas.{ArePages, is_settled, settling_of, synced_bytes, synced_journal}
+use Rattle.segments.specs.lemmas.adding.Write.{ArePages}
+use Rattle.segments.specs.lemmas.held.Passing.{guard_ok}
+use Rattle.segments.proofs.adding.WriteLemmas.{is_settled, settling_of, synced_bytes, synced_journal}
 
 module _ {F S D : Type 0} {gs : _} (g : buffer.Ghosts (PageBlob S gs)) (gives : F → Setting) (seal : List ℕ → ℕ) (size : ℕ) (dev : device.Ghosts D) (j : Lists F (PageBlob S gs)) (IsNamed : ℕ → Type 0) (IsBelow : Type 0) (old new : D) where
   -- the same error, of another call's answer

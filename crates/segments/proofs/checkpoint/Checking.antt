@@ -17,8 +17,11 @@ use Rattle.sealed_pages.specs.Shown.{shown}
 use Rattle.sealed_pages.specs.Buffer.{size_of}
 use Rattle.sealed_pages.specs.View.{view}
 use Rattle.sealed_pages.specs.declared.page_blob.PageBlob.{PageBlob}
-use Rattle.sealed_pages.proofs.memory.Holding.{extent_more}
-use Rattle.sealed_pages.proofs.looking.Looking.{unchanged_now, unchanged_start, unchanged_then}
+use Rattle.sealed_pages.specs.lemmas.looking.Looking.{unchanged_now, unchanged_start, unchanged_then}
+use Rattle.sealed_pages.specs.lemmas.memory.Holding.{extent_more}
+use Rattle.segments.specs.lemmas.adding.Write.{ArePages}
+use Rattle.segments.specs.lemmas.held.Passing.{error_back, failed_on}
+use Rattle.segments.specs.lemmas.replay.Reading.{failed_since}
 use Rattle.value_codec.specs.declared.codec.Error as codec
 use Rattle.section_manager.specs.Refusing.{HasFailed}
 use Rattle.section_manager.specs.Sections.{Sections, section_key, key_of, IsHeld, IsOver}
@@ -34,9 +37,6 @@ use Rattle.segments.specs.FixedFloors as marks
 use Rattle.segments.specs.FixedFloors.{Floors, IsBoundary, AreAdopted}
 use Rattle.segments.specs.FixedLists.{section_size, size_held}
 use Rattle.segments.proofs.opened.FloorLemmas.{whole_items}
-use Rattle.segments.proofs.held.Passing.{failed_on, error_back}
-use Rattle.segments.proofs.replay.Reading.{failed_since}
-use Rattle.segments.proofs.adding.WriteLemmas.{ArePages}
 use Rattle.blob_device.proofs.general.Options.{has_value, none_or_value, value_of}
 
 -- n whole items have the bytes that they were counted by

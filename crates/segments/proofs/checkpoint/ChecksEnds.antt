@@ -18,7 +18,9 @@ use Rattle.sealed_pages.specs.Reads.{IsCovered}
 use Rattle.sealed_pages.specs.SealedPrefix.{data_from}
 use Rattle.sealed_pages.specs.Shown.{shown}
 use Rattle.sealed_pages.specs.View.{view}
-use Rattle.sealed_pages.proofs.looking.Looking.{unchanged_now, unchanged_start, unchanged_then}
+use Rattle.sealed_pages.specs.lemmas.looking.Looking.{unchanged_now, unchanged_start, unchanged_then}
+use Rattle.segments.specs.lemmas.adding.Write.{ArePages}
+use Rattle.segments.specs.lemmas.replay.Reading.{failed_since}
 use Rattle.section_manager.specs.Entries.{OnlyOwnEntry}
 use Rattle.section_manager.specs.Raised.{raised, raised_codec}
 use Rattle.section_manager.specs.Refusing.{HasFailed}
@@ -35,8 +37,6 @@ use Rattle.segments.specs.FixedChecks.{AreCheckable, ChecksMarker, LooksBelow, T
 use Rattle.segments.specs.FixedFloors.{Floors, IsBoundary, IsRefused, IsUnsealed}
 use Rattle.segments.specs.lemmas.FixedErrors.{codec_of}
 use Rattle.segments.proofs.opened.FloorLemmas.{over_read}
-use Rattle.segments.proofs.replay.Reading.{failed_since}
-use Rattle.segments.proofs.adding.WriteLemmas.{ArePages}
 
 -- an error of a read that is neither short nor of a page
 pub read_failed_last : {T U : Type 0} (raw : RError) (x : Error) (before now : ℕ) → x ≡ raised raw → (raw ≡ runtime.BlobInsufficientLength → ⊥) → ((k : ℕ) → raw ≡ runtime.InvalidChecksum k → ⊥)

@@ -12,7 +12,8 @@ use Rattle.blob_device.specs.Timeline.{disk}
 use Rattle.blob_device.specs.declared.device.Device as device
 use Rattle.sealed_pages.specs.Reading.{Unchanged}
 use Rattle.sealed_pages.specs.declared.page_blob.PageBlob.{PageBlob}
-use Rattle.sealed_pages.proofs.looking.Looking.{unchanged_now, unchanged_start}
+use Rattle.sealed_pages.specs.lemmas.looking.Looking.{unchanged_now, unchanged_start}
+use Rattle.segments.specs.lemmas.held.Passing.{no_error}
 use Rattle.value_codec.specs.declared.codec.Error as codec
 use Rattle.section_manager.specs.Sections.{Sections, section_key, key_of, IsHeld, IsOver}
 use Rattle.section_manager.specs.Setting.{Setting}
@@ -25,7 +26,6 @@ use Rattle.segments.specs.FixedChecks.{AreCheckable}
 use Rattle.segments.specs.FixedFloors.{Floors, AreAdopted}
 use Rattle.segments.proofs.opened.BoundsEnds.{if_ok_on}
 use Rattle.segments.proofs.checkpoint.Checking.{come_named, looks_then}
-use Rattle.segments.proofs.held.Passing.{no_error}
 use Rattle.blob_device.proofs.general.Lists.{before_turn}
 
 -- the numbers below that of this turn had theirs

@@ -25,7 +25,7 @@ use Rattle.segments.proofs.checkpoint.Checking.{boundary_own, adopted_here, whol
 use Rattle.segments.proofs.opened.FloorLemmas.{AreOpened, adopted_now, was_there}
 use Rattle.segments.proofs.opened.OpenLemmas.{opened_journal}
 use Rattle.segments.proofs.checkpoint.Preflights.{reads_as}
-use Rattle.segments.proofs.adding.WriteLemmas.{ArePages}
+use Rattle.segments.specs.lemmas.adding.Write.{ArePages}
 use Rattle.blob_device.proofs.general.Options.{none_or_value}
 
 module _ {A S : Type 0} {gs : _} (seal : List ℕ → ℕ) (size at bytes : ℕ) (spelling : A → List ℕ) (accepted : A → Unit {0} → Type 0) (g : buffer.Ghosts (PageBlob S gs)) (gives : AppendFactory S → Setting)

@@ -9,7 +9,10 @@ use Rattle.blob_device.specs.declared.device.Device as device
 use Rattle.blob_device.specs.lemmas.Moments.{always_now, always_then, always_weaker}
 use Rattle.sealed_pages.specs.Reading.{Unchanged}
 use Rattle.sealed_pages.specs.declared.pages.Pages.{Pages}
-use Rattle.sealed_pages.proofs.looking.Looking.{unchanged_start}
+use Rattle.sealed_pages.specs.lemmas.looking.Looking.{unchanged_start}
+use Rattle.section_manager.specs.lemmas.Init.{settling_start}
+use Rattle.segments.specs.lemmas.adding.Write.{ArePages}
+use Rattle.segments.specs.lemmas.held.Passing.{error_back, failed_on, no_error}
 use Rattle.sealed_pages.specs.declared.page_blob.PageBlob.{PageBlob}
 use Rattle.value_codec.specs.declared.codec.Error as codec
 use Rattle.section_manager.specs.Lasting.{IsSettling}
@@ -21,15 +24,13 @@ use Rattle.section_manager.specs.declared.journal.Damage.{Damage}
 use Rattle.section_manager.specs.declared.journal.Error.{Error}
 use Rattle.section_manager.specs.declared.journal.Error.TheVariants.{Codec, Corruption, InvalidBlobName, Mem}
 use Rattle.section_manager.specs.declared.sealed.AppendFactory.{AppendFactory}
-use Rattle.section_manager.proofs.InitLemmas.{settling_start}
 use Rattle.segments.specs.FixedBounds.{whole_of}
 use Rattle.segments.specs.FixedCheckpoint.{boundary_at, IsUnder, IsCheckpointRefused, IsPassed, HasCome, Looks, Checks}
 use Rattle.segments.specs.FixedFloors.{Floors, AreAdopted}
 use Rattle.segments.proofs.checkpoint.AsBefore.{ReadsAs, under_same, under_back, refused_same, item_same, passed_same, kept_none}
 use Rattle.segments.proofs.checkpoint.Checking.{boundary_own}
 use Rattle.segments.proofs.opened.FloorLemmas.{AreOpened, adopted_now, held_now, content_now, there_now, was_there, not_damaged, not_coded}
-use Rattle.segments.proofs.adding.WriteLemmas.{ArePages}
-use Rattle.segments.proofs.held.Passing.{failed_on, opening_on, error_back, checked_on, checked_named, no_error}
+use Rattle.segments.proofs.held.Passing.{opening_on, checked_on, checked_named}
 
 -- after an opening that settles, each blob reads as before
 pub reads_as : (seal : List ℕ → ℕ) (P size : ℕ) (p : List ℕ) (at bytes : ℕ) (from now : Timeline) → Always from now (Each (IsSettling p at (disk from))) → ReadsAs seal P size p at bytes (disk now) (disk from)

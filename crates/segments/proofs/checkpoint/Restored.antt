@@ -18,9 +18,9 @@ use Rattle.segments.specs.FixedBounds.{IsTailCut, CutsTail}
 use Rattle.segments.specs.FixedCheckpoint.{IsReady, Restores, Finishes}
 use Rattle.segments.specs.FixedLists.{Lists, section_size, size_held, IsJournal}
 use Rattle.segments.specs.declared.fixed.preflighting.Target.{Target}
-use Rattle.segments.proofs.cutting.CutLemmas.{empty_sealed}
-use Rattle.segments.proofs.held.Passing.{no_error}
-use Rattle.segments.proofs.adding.WriteLemmas.{ArePages, journal_of}
+use Rattle.segments.specs.lemmas.adding.Write.{ArePages, journal_of}
+use Rattle.segments.specs.lemmas.cutting.Cut.{empty_sealed}
+use Rattle.segments.specs.lemmas.held.Passing.{no_error}
 use Rattle.blob_device.proofs.general.Options.{none_or_value, some_same, value_of}
 
 module _ {F S : Type 0} {gs : _} (g : buffer.Ghosts (PageBlob S gs)) (gives : F → Setting) (seal : List ℕ → ℕ) (size : ℕ) (told : Type 0) (pages : ArePages g seal)

@@ -11,7 +11,10 @@ use Rattle.sealed_pages.specs.Reading.{OnlyRead, Unchanged}
 use Rattle.sealed_pages.specs.SealedPrefix.{sealed_prefix, adopted_size}
 use Rattle.sealed_pages.specs.Shown.{shown}
 use Rattle.sealed_pages.specs.declared.page_blob.PageBlob.{PageBlob}
-use Rattle.sealed_pages.proofs.looking.Looking.{unchanged_now, unchanged_start, unchanged_then}
+use Rattle.sealed_pages.specs.lemmas.looking.Looking.{unchanged_now, unchanged_start, unchanged_then}
+use Rattle.segments.specs.lemmas.held.Passing.{failed_on, no_error}
+use Rattle.segments.specs.lemmas.held.Sections.{opened_read}
+use Rattle.segments.specs.lemmas.replay.Reading.{failed_since}
 use Rattle.value_codec.specs.declared.codec.Error as codec
 use Rattle.section_manager.specs.Refusing.{HasFailed}
 use Rattle.section_manager.specs.Sections.{Sections, section_key, key_of, IsHeld, IsOver}
@@ -24,9 +27,6 @@ use Rattle.segments.specs.FixedCheckpoint.{boundary_at, IsUnder, IsCheckpointRef
 use Rattle.segments.specs.FixedFloors.{Floors, AreAdopted}
 use Rattle.segments.specs.declared.fixed.preflighting.Target.{Target}
 use Rattle.segments.proofs.checkpoint.Checking.{come_add, come_one, Answers, boundary_own, passes_below, looks_one}
-use Rattle.segments.proofs.held.Passing.{no_error, failed_on}
-use Rattle.segments.proofs.replay.Reading.{failed_since}
-use Rattle.segments.proofs.held.Sections.{opened_read}
 use Rattle.blob_device.proofs.general.Numbers.{no_rest}
 use Rattle.blob_device.proofs.general.Options.{has_value, none_or_value, value_of}
 

@@ -6,7 +6,10 @@ use Rattle.blob_device.specs.lemmas.Moments.{always_now}
 use Rattle.sealed_pages.specs.Buffer.{size_of}
 use Rattle.sealed_pages.specs.Shown.{shown}
 use Rattle.sealed_pages.specs.declared.page_blob.PageBlob.{PageBlob}
-use Rattle.sealed_pages.proofs.slots.PageCalls.{only_weaker}
+use Rattle.sealed_pages.specs.lemmas.slots.PageCalls.{only_weaker}
+use Rattle.segments.specs.lemmas.adding.Write.{ArePages}
+use Rattle.segments.specs.lemmas.cutting.Cut.{cut_journal, cut_prefix, cut_sealing, cut_unsealed}
+use Rattle.segments.specs.lemmas.held.Passing.{guard_ok, no_error}
 use Rattle.section_manager.specs.Sections.{key_of}
 use Rattle.section_manager.specs.Setting.{Setting}
 use Rattle.section_manager.specs.declared.buffer.SectionBuffer as buffer
@@ -16,10 +19,7 @@ use Rattle.section_manager.specs.lemmas.Seen.{err_same, failed_again}
 use Rattle.section_manager.specs.lemmas.Keys.{keys_differ}
 use Rattle.segments.specs.FixedCutting.{Cuts, IsLongerHere}
 use Rattle.segments.specs.FixedLists.{Lists, IsJournal}
-use Rattle.segments.proofs.cutting.CutLemmas.{cut_prefix, cut_journal, cut_sealing, cut_unsealed}
-use Rattle.segments.proofs.held.Passing.{guard_ok, no_error}
 use Rattle.segments.proofs.adding.Spared.{bytes_spared}
-use Rattle.segments.proofs.adding.WriteLemmas.{ArePages}
 
 module _ {F S D : Type 0} {gs : _} (g : buffer.Ghosts (PageBlob S gs)) (gives : F → Setting) (seal : List ℕ → ℕ) (size : ℕ) (dev : device.Ghosts D) (j : Lists F (PageBlob S gs)) (section n : ℕ) (old new : D)
     (pages : ArePages g seal) (journal : IsJournal g gives seal size dev.Tells j (dev.opened old) (disk (dev.time old))) where

@@ -12,9 +12,9 @@ use Rattle.section_manager.specs.declared.buffer.SectionBuffer as buffer
 use Rattle.section_manager.specs.Setting.{Setting}
 use Rattle.section_manager.specs.Sections.{key_of, IsKnown, IsGone, IsSame, IsKeyOf, SamePlace, IsOver}
 use Rattle.segments.specs.FixedLists.{Lists, section_bytes, IsJournal}
-use Rattle.segments.proofs.held.Sections.{is_held}
+use Rattle.segments.specs.lemmas.adding.Write.{proven_back}
+use Rattle.segments.specs.lemmas.held.Sections.{is_held}
 use Rattle.segments.proofs.adding.Spared.{bytes_spared}
-use Rattle.segments.proofs.adding.WriteLemmas.{proven_back}
 
 pub same_number : (m n : ℕ) → m < 2 ^ 64 → n < 2 ^ 64 → to_be_bytes w64 m ≡ to_be_bytes w64 n → m ≡ n
 same_number m n fits fits' same = sym (from_be_bytes-to_be_bytes_8 m fits) ∙ ap (from_be_bytes w64) same ∙ from_be_bytes-to_be_bytes_8 n fits'

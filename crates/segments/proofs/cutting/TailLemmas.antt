@@ -10,7 +10,10 @@ use Rattle.blob_device.specs.lemmas.Moments.{always_weaker}
 use Rattle.sealed_pages.specs.Buffer.{size_of, IsSealed}
 use Rattle.sealed_pages.specs.SealedPrefix.{sealed_prefix}
 use Rattle.sealed_pages.specs.Shown.{shown}
-use Rattle.sealed_pages.proofs.UnrecoveredLemmas.{prefix_settled}
+use Rattle.sealed_pages.specs.lemmas.Unrecovered.{prefix_settled}
+use Rattle.segments.specs.lemmas.adding.Write.{ArePages, IsFine, fine_of, journal_of, leaves_prefix, leaves_sealed, proven_back}
+use Rattle.segments.specs.lemmas.cutting.Cut.{settled_prefix}
+use Rattle.segments.specs.lemmas.held.Sections.{is_held}
 use Rattle.sealed_pages.specs.Unrecovered.{IsAdopted}
 use Rattle.sealed_pages.specs.declared.page_blob.PageBlob.{PageBlob}
 use Rattle.section_manager.specs.Answers.{seen}
@@ -21,10 +24,7 @@ use Rattle.section_manager.specs.declared.buffer.SectionBuffer as buffer
 use Rattle.section_manager.specs.declared.journal.Error.{Error}
 use Rattle.segments.specs.FixedBounds.{CuttingTail, CutsTail}
 use Rattle.segments.specs.FixedLists.{Lists, IsJournal}
-use Rattle.segments.proofs.cutting.CutLemmas.{settled_prefix}
 use Rattle.segments.proofs.cutting.RemoveLemmas.{same_number}
-use Rattle.segments.proofs.held.Sections.{is_held}
-use Rattle.segments.proofs.adding.WriteLemmas.{ArePages, IsFine, fine_of, journal_of, leaves_sealed, leaves_prefix, proven_back}
 use Rattle.blob_device.proofs.general.Options.{has_value, none_or_value, some_same, value_of}
 
 module _ {F S : Type 0} {gs : _} (seal : List ℕ → ℕ) (size : ℕ) (told : Type 0) (g : buffer.Ghosts (PageBlob S gs)) (pages : ArePages g seal) (gives : F → Setting)

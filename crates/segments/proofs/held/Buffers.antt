@@ -13,14 +13,14 @@ use Rattle.sealed_pages.specs.ChanceSeal.{Leaves, Sealing}
 use Rattle.sealed_pages.specs.Cutting.{IsAtRest, Settles}
 use Rattle.sealed_pages.specs.SealedPrefix.{sealed_prefix}
 use Rattle.sealed_pages.specs.Unrecovered.{IsAdopted, IsUnrecovered, IsRecovery, KeepsPrefix}
-use Rattle.sealed_pages.proofs.cutting.Calls.{sealing_less}
-use Rattle.sealed_pages.proofs.memory.Holding.{bytes_length}
-use Rattle.sealed_pages.proofs.Reaching.{rest_leaves}
-use Rattle.sealed_pages.proofs.cutting.Truncating.{all_flushed}
-use Rattle.sealed_pages.proofs.UnrecoveredLemmas.{adopted_backed, keeps_now}
+use Rattle.sealed_pages.specs.lemmas.Reaching.{rest_leaves}
+use Rattle.sealed_pages.specs.lemmas.Unrecovered.{adopted_backed, keeps_now}
+use Rattle.sealed_pages.specs.lemmas.cutting.Calls.{sealing_less}
+use Rattle.sealed_pages.specs.lemmas.cutting.Truncating.{all_flushed}
+use Rattle.sealed_pages.specs.lemmas.memory.Holding.{bytes_length}
+use Rattle.segments.specs.lemmas.replay.Kept.{sealed_flushed}
 use Rattle.section_manager.specs.Sealed.{Stands}
 use Rattle.segments.specs.FixedStepping.{IsFlushed, IsCutBack}
-use Rattle.segments.proofs.replay.Kept.{sealed_flushed}
 
 module _ {S : Type 0} {gs : _} (seal : List ℕ → ℕ) (told : Type 0) (u v : PageBlob S gs) (K : Key) (a b : Timeline) (key : key_of (shown u) ≡ K) where
   pub flushed_at : v.page_size ≡ u.page_size → size_of (shown v) ≡ size_of (shown u) → v.settled ≡ u.settled → v.from ≡ length v.tip.items

@@ -18,7 +18,10 @@ use Rattle.sealed_pages.specs.Shown.{shown}
 use Rattle.sealed_pages.specs.Unrecovered.{IsAdopted, IsSafeCut}
 use Rattle.sealed_pages.specs.Writes.{Truncates}
 use Rattle.sealed_pages.specs.declared.page_blob.PageBlob.{PageBlob}
-use Rattle.sealed_pages.proofs.UnrecoveredLemmas.{adopted_backed}
+use Rattle.sealed_pages.specs.lemmas.Unrecovered.{adopted_backed}
+use Rattle.section_manager.specs.lemmas.buffers.SealedCalls.{sound_page}
+use Rattle.section_manager.specs.lemmas.sections.Lent.{lent_back, lent_none, lent_out, puts_back}
+use Rattle.segments.specs.lemmas.adding.Write.{ArePages}
 use Rattle.section_manager.specs.Raised.{raised}
 use Rattle.section_manager.specs.Sealed.{Stands}
 use Rattle.section_manager.specs.Sections.{Sections, key_of, IsHeld, IsOver, IsSame, SameBounds}
@@ -29,8 +32,6 @@ use Rattle.section_manager.specs.declared.journal.Error.TheVariants.{Mem}
 use Rattle.section_manager.specs.managing.Lending.{IsPut}
 use Rattle.section_manager.specs.managing.Lent.{OnlyTouches, PutsBack, StepsTo}
 use Rattle.section_manager.specs.managing.Opening.{Takes}
-use Rattle.section_manager.proofs.buffers.SealedCalls.{sound_page}
-use Rattle.section_manager.proofs.sections.LentLemmas.{lent_back, lent_none, lent_out, puts_back}
 use Rattle.segments.specs.FixedReplay.{Walk}
 use Rattle.segments.specs.FixedStepping.{OnlySections, Touches, IsCutBack, CutsBack}
 use Rattle.segments.proofs.held.Buffers.{cut_at, no_cut_moments, cut_moved}
@@ -38,7 +39,6 @@ use Rattle.segments.proofs.held.Calls.{cut_stands}
 use Rattle.segments.proofs.replay.Counts.{few_reads}
 use Rattle.segments.proofs.replay.ErrorSteps.{raised_cut}
 use Rattle.segments.specs.lemmas.FixedErrors.{runtime_of}
-use Rattle.segments.proofs.adding.WriteLemmas.{ArePages}
 use Rattle.blob_device.proofs.general.Options.{same_some}
 
 safe_cut : (seal : List ℕ → ℕ) (u : Buffer) (n : ℕ) (b : Blob) → IsAdopted seal u b → n ≤ length (sealed_prefix seal u.page_size b.content) → IsSafeCut seal u n b

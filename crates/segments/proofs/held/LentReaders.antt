@@ -14,8 +14,11 @@ use Rattle.sealed_pages.specs.SealedPrefix.{sealed_prefix}
 use Rattle.sealed_pages.specs.Shown.{shown}
 use Rattle.sealed_pages.specs.Unrecovered.{IsUnrecovered, KeepsPrefix}
 use Rattle.sealed_pages.specs.declared.page_blob.PageBlob.{PageBlob}
-use Rattle.sealed_pages.proofs.memory.Holding.{holds_start}
-use Rattle.sealed_pages.proofs.cutting.Truncating.{all_flushed}
+use Rattle.sealed_pages.specs.lemmas.cutting.Truncating.{all_flushed}
+use Rattle.sealed_pages.specs.lemmas.memory.Holding.{holds_start}
+use Rattle.segments.specs.lemmas.adding.Append.{steady_start}
+use Rattle.segments.specs.lemmas.adding.Write.{ArePages}
+use Rattle.segments.specs.lemmas.held.Calls.{flush_stands}
 use Rattle.section_manager.specs.Raised.{raised}
 use Rattle.section_manager.specs.Sections.{Sections, key_of, IsOver, IsSame, SameBounds}
 use Rattle.section_manager.specs.Setting.{Setting}
@@ -27,13 +30,10 @@ use Rattle.section_manager.specs.managing.Lent.{OnlyTouches}
 use Rattle.section_manager.specs.managing.Opening.{Takes}
 use Rattle.segments.specs.FixedReplay.{Walk}
 use Rattle.segments.specs.FixedStepping.{OnlySections, IsFlushed, BeginsOver, OpensReader}
-use Rattle.segments.proofs.adding.AppendLemmas.{steady_start}
 use Rattle.segments.proofs.held.Buffers.{flushed_at}
-use Rattle.segments.proofs.held.Calls.{flush_stands}
 use Rattle.segments.proofs.replay.Counts.{no_reads}
 use Rattle.segments.proofs.replay.ErrorSteps.{raised_failed}
 use Rattle.segments.proofs.held.Lending.{AreAlike, own_key, own_stands, page_touches, page_steps, taken_same, touched_none, touched_out, touched_back}
-use Rattle.segments.proofs.adding.WriteLemmas.{ArePages}
 use Rattle.blob_device.proofs.general.Options.{same_some}
 
 module _ {F S D : Type 0} (Q : Type 0) {gs : _} (seal : List ℕ → ℕ) (g : buffer.Ghosts (PageBlob S gs)) (gives : F → Setting) (are : ArePages g seal) (alike : AreAlike g) (dev : device.Ghosts D)

@@ -12,8 +12,8 @@ use Rattle.sealed_pages.specs.SealedPrefix.{pages_in, size_below, adopted_size, 
 use Rattle.sealed_pages.specs.Shown.{shown}
 use Rattle.sealed_pages.specs.Slots.{page_length}
 use Rattle.sealed_pages.specs.View.{view}
-use Rattle.sealed_pages.proofs.looking.Looking.{size_found, size_none, size_zero}
-use Rattle.sealed_pages.proofs.slots.SealedBytes.{page_length-le}
+use Rattle.sealed_pages.specs.lemmas.looking.Looking.{size_found, size_none, size_zero}
+use Rattle.sealed_pages.specs.lemmas.slots.SealedBytes.{page_length-le}
 use Rattle.segments.specs.FixedFloors.{IsAdoptedOver}
 use Rattle.segments.proofs.replay.Kept.{item_data}
 use Rattle.blob_device.proofs.general.Numbers.{times_more}

@@ -14,7 +14,9 @@ use Rattle.sealed_pages.specs.Buffer.{size_of, bytes_of, IsBacked}
 use Rattle.sealed_pages.specs.Buffer as pages
 use Rattle.sealed_pages.specs.Shown.{shown}
 use Rattle.sealed_pages.specs.lemmas.Entries.{only_read_of}
-use Rattle.sealed_pages.proofs.looking.Looking.{unchanged_now, unchanged_start}
+use Rattle.sealed_pages.specs.lemmas.looking.Looking.{unchanged_now, unchanged_start}
+use Rattle.segments.specs.lemmas.adding.Write.{ArePages}
+use Rattle.segments.specs.lemmas.held.Sections.{bytes_own, from_here, holds_own, is_held, journal_read, own_here, size_here, some_here}
 use Rattle.section_manager.specs.Refusing.{IsPruned}
 use Rattle.section_manager.specs.Sections.{key_of}
 use Rattle.section_manager.specs.Setting.{Setting}
@@ -29,8 +31,7 @@ use Rattle.segments.specs.FixedLists.{Lists, section_bytes, section_size, IsJour
 use Rattle.segments.specs.FixedReading.{HasItem, is_item_held, unheld, IsDamaged, IsItemCovered, IsAbsent, IsPast, HasNotRead}
 use Rattle.segments.proofs.looking.ItemReads.{no_reads}
 use Rattle.segments.proofs.looking.ReadLemmas.{none_over}
-use Rattle.segments.proofs.held.Sections.{size_here, some_here, from_here, is_held, bytes_own, own_here, holds_own, journal_read, reads_as, sound_page}
-use Rattle.segments.proofs.adding.WriteLemmas.{ArePages}
+use Rattle.segments.proofs.held.Sections.{reads_as, sound_page}
 use Rattle.blob_device.proofs.general.Options.{some_same, value_of}
 use Rattle.blob_device.proofs.general.Results.{on_ok}
 use Rattle.std.proofs.lemmas.Bool.{cases_Bool}

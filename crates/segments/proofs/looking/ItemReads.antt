@@ -14,7 +14,7 @@ use Rattle.sealed_pages.specs.Buffer.{key_of, bytes_of, IsBacked}
 use Rattle.sealed_pages.specs.Entries.{ReadsAtMost}
 use Rattle.sealed_pages.specs.Reading.{Unchanged}
 use Rattle.sealed_pages.specs.Shown.{shown}
-use Rattle.sealed_pages.proofs.looking.Looking.{unchanged_start}
+use Rattle.sealed_pages.specs.lemmas.looking.Looking.{unchanged_start}
 use Rattle.section_manager.specs.Raised.{raised_codec}
 use Rattle.section_manager.specs.Refusing.{HasFailed}
 use Rattle.section_manager.specs.declared.journal.Error.{Error}

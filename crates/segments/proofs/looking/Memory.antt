@@ -8,8 +8,8 @@ use Rattle.std.proofs.Math.Nat.{mul-le-mul_right}
 use Rattle.sealed_pages.specs.Buffer.{Buffer, size_of, cached, is_cached, IsBacked}
 use Rattle.sealed_pages.specs.Cached.{uncached, IsCachedOf}
 use Rattle.sealed_pages.specs.Reads.{IsCacheFor, IsHeld, IsCovered, IsWanted, touched, below, missing_pages}
-use Rattle.sealed_pages.proofs.memory.CacheLemmas.{found_page_has, uncached_most}
-use Rattle.sealed_pages.proofs.memory.HeldLemmas.{held_from, held_to, wanted_low}
+use Rattle.sealed_pages.specs.lemmas.memory.Cache.{found_page_has, uncached_most}
+use Rattle.sealed_pages.specs.lemmas.memory.Held.{held_from, held_to, wanted_low}
 use Rattle.segments.proofs.looking.ReadLemmas.{touched_most, touched_none, touched_some}
 use Rattle.blob_device.proofs.general.Numbers.{div_place, times_next}
 

@@ -19,7 +19,9 @@ use Rattle.sealed_pages.specs.SealedPrefix.{sealed_prefix}
 use Rattle.sealed_pages.specs.Shown.{shown}
 use Rattle.sealed_pages.specs.declared.page_blob.PageBlob.{PageBlob}
 use Rattle.sealed_pages.specs.lemmas.Entries.{only_read_of, only_read_start}
-use Rattle.sealed_pages.proofs.looking.Looking.{unchanged_now, unchanged_start}
+use Rattle.sealed_pages.specs.lemmas.looking.Looking.{unchanged_now, unchanged_start}
+use Rattle.segments.specs.lemmas.held.Passing.{guard_on, no_error}
+use Rattle.segments.specs.lemmas.held.Sections.{journal_read}
 use Rattle.section_manager.specs.Raised.{raised}
 use Rattle.section_manager.specs.Refusing.{IsPruned, HasFailed}
 use Rattle.section_manager.specs.Sections.{Sections, key_of}
@@ -29,8 +31,6 @@ use Rattle.section_manager.specs.declared.journal.Error.{Error}
 use Rattle.segments.specs.FixedBounds.{whole_of, sealed_size, Measures, Recovers, FindsEnd}
 use Rattle.segments.specs.FixedLists.{Lists, size_held}
 use Rattle.segments.proofs.looking.ItemReads.{no_reads}
-use Rattle.segments.proofs.held.Passing.{no_error, guard_on}
-use Rattle.segments.proofs.held.Sections.{journal_read}
 use Rattle.blob_device.proofs.general.Options.{some_same}
 
 -- whole items leave no rest

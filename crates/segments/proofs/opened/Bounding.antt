@@ -16,10 +16,11 @@ use Rattle.sealed_pages.specs.Shown.{shown}
 use Rattle.sealed_pages.specs.View.{view}
 use Rattle.sealed_pages.specs.declared.page_blob.PageBlob.{PageBlob}
 use Rattle.sealed_pages.specs.declared.pages.Pages.{Pages}
-use Rattle.sealed_pages.proofs.adopted.Adopt.{length-data_from}
-use Rattle.sealed_pages.proofs.memory.Holding.{bytes_length}
-use Rattle.sealed_pages.proofs.Reaching.{own_prefix}
-use Rattle.sealed_pages.proofs.cutting.Truncating.{all_flushed, settles_of}
+use Rattle.sealed_pages.specs.lemmas.Reaching.{own_prefix}
+use Rattle.sealed_pages.specs.lemmas.adopted.Adopt.{length-data_from}
+use Rattle.sealed_pages.specs.lemmas.cutting.Truncating.{all_flushed, settles_of}
+use Rattle.sealed_pages.specs.lemmas.memory.Holding.{bytes_length}
+use Rattle.segments.specs.lemmas.adding.Write.{ArePages, bytes_here, size_here}
 use Rattle.section_manager.specs.Lasting.{IsGoing, IsSettling}
 use Rattle.section_manager.specs.Sealed.{adopted_bytes, is_unsettled}
 use Rattle.section_manager.specs.Sections.{section_key, key_of, IsHeld, IsKnown, IsKeyOf, IsCut}
@@ -31,7 +32,6 @@ use Rattle.section_manager.specs.declared.unopened.Unopened.TheVariants.{Section
 use Rattle.section_manager.specs.lemmas.Keys.{key_injective}
 use Rattle.segments.specs.FixedBounds.{whole_of, sealed_size, bounded_size, CuttingTail, IsTailCut, Bounding, IsOpenedWhole, IsOpenedCut}
 use Rattle.segments.specs.FixedLists.{Lists, bytes_held, section_bytes, section_size, IsJournal}
-use Rattle.segments.proofs.adding.WriteLemmas.{ArePages, size_here, bytes_here}
 use Rattle.blob_device.proofs.general.Numbers.{last_place}
 use Rattle.blob_device.proofs.general.Options.{none_or_value, some_of, some_same, value_of}
 

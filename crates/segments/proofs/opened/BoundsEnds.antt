@@ -13,7 +13,11 @@ use Rattle.sealed_pages.specs.SealedPrefix.{sealed_prefix}
 use Rattle.sealed_pages.specs.Shown.{shown}
 use Rattle.sealed_pages.specs.declared.page_blob.PageBlob.{PageBlob}
 use Rattle.sealed_pages.specs.declared.pages.Pages.{Pages}
-use Rattle.sealed_pages.proofs.looking.Looking.{unchanged_now}
+use Rattle.sealed_pages.specs.lemmas.looking.Looking.{unchanged_now}
+use Rattle.segments.specs.lemmas.adding.Write.{ArePages}
+use Rattle.segments.specs.lemmas.held.Passing.{error_back, failed_on, pruned_on}
+use Rattle.segments.specs.lemmas.held.Sections.{journal_read, size_here}
+use Rattle.segments.specs.lemmas.replay.Reading.{failed_since}
 use Rattle.section_manager.specs.Lasting.{IsSettling}
 use Rattle.section_manager.specs.Refusing.{HasDamage, HasFailed, IsForeign, IsPruned}
 use Rattle.section_manager.specs.Sections.{section_key, key_of, IsKeyOf, IsKnown}
@@ -26,10 +30,6 @@ use Rattle.section_manager.specs.declared.unopened.Unopened.TheVariants.{Leftove
 use Rattle.segments.specs.FixedBounds.{whole_of, sealed_size, FindsEnd, CuttingTail, IsTailCut, Bounding, IsOpenedCut, Bounds, IsBoundCause}
 use Rattle.segments.specs.FixedLists.{Lists, section_bytes, section_size, IsJournal}
 use Rattle.segments.proofs.opened.Bounding.{Found, settling_bounding, tail_bounding, opened_cut}
-use Rattle.segments.proofs.held.Passing.{failed_on, pruned_on, error_back}
-use Rattle.segments.proofs.replay.Reading.{failed_since}
-use Rattle.segments.proofs.held.Sections.{journal_read, size_here}
-use Rattle.segments.proofs.adding.WriteLemmas.{ArePages}
 use Rattle.blob_device.proofs.general.Results.{err_with, on_err}
 
 pub if_ok_on : {T E : Type 0} {Q R : T → Type 0} (r : Result T E) → ((v : T) → Q v → R v) → IfOk r Q → IfOk r R

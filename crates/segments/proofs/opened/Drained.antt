@@ -16,8 +16,9 @@ use Rattle.sealed_pages.specs.Shown.{shown}
 use Rattle.sealed_pages.specs.View.{view}
 use Rattle.sealed_pages.specs.declared.page_blob.PageBlob.{PageBlob}
 use Rattle.sealed_pages.specs.declared.pages.Pages.{Pages}
-use Rattle.sealed_pages.proofs.adopted.Adopt.{length-data_from}
-use Rattle.sealed_pages.proofs.Reaching.{prefix_size}
+use Rattle.sealed_pages.specs.lemmas.Reaching.{prefix_size}
+use Rattle.sealed_pages.specs.lemmas.adopted.Adopt.{length-data_from}
+use Rattle.segments.specs.lemmas.adding.Write.{ArePages, bytes_here}
 use Rattle.value_codec.specs.declared.codec.Error as codec
 use Rattle.section_manager.specs.Lasting.{IsGoing}
 use Rattle.section_manager.specs.SealedLaws.{all_settled}
@@ -34,7 +35,6 @@ use Rattle.segments.specs.FixedReplay.{Walk, IsLeft, Replaying, kept_of, kept_by
 use Rattle.segments.proofs.opened.Bounding.{bounded_le}
 use Rattle.segments.proofs.opened.BoundLemmas.{whole_whole}
 use Rattle.segments.proofs.replay.DrainLemmas.{same_item}
-use Rattle.segments.proofs.adding.WriteLemmas.{ArePages, bytes_here}
 use Rattle.blob_device.proofs.general.Numbers.{times_more, times_next}
 use Rattle.blob_device.proofs.general.Options.{some_of, some_there}
 

@@ -22,8 +22,8 @@ use Rattle.segments.specs.FixedReading.{HasNotRead, IsBelowFloor}
 use Rattle.segments.specs.FixedReplay.{Walk, Begins, Replaying}
 use Rattle.segments.proofs.opened.BoundsEnds.{if_ok_on, opened_bounds}
 use Rattle.segments.proofs.opened.Drained.{begun, drained_bounding, refused_kept, opened_at_most}
-use Rattle.segments.proofs.replay.Reading.{failed_since}
-use Rattle.segments.proofs.adding.WriteLemmas.{ArePages}
+use Rattle.segments.specs.lemmas.adding.Write.{ArePages}
+use Rattle.segments.specs.lemmas.replay.Reading.{failed_since}
 use Rattle.blob_device.proofs.general.Options.{value_of}
 use Rattle.blob_device.proofs.general.Results.{on_err}
 

@@ -27,13 +27,16 @@ use Rattle.sealed_pages.specs.Reading.{Unchanged}
 use Rattle.sealed_pages.specs.SealedPrefix.{sealed_prefix, adopted_size, data_from}
 use Rattle.sealed_pages.specs.Shown.{shown}
 use Rattle.sealed_pages.specs.View.{view}
-use Rattle.sealed_pages.proofs.adopted.Adopt.{length-data_from}
+use Rattle.sealed_pages.specs.lemmas.Reaching.{prefix_size}
+use Rattle.sealed_pages.specs.lemmas.Unrecovered.{adopted_backed}
+use Rattle.sealed_pages.specs.lemmas.adopted.Adopt.{length-data_from}
+use Rattle.sealed_pages.specs.lemmas.looking.Looking.{unchanged_now}
+use Rattle.sealed_pages.specs.lemmas.memory.Holding.{bytes_length}
+use Rattle.section_manager.specs.lemmas.Init.{settling_content, settling_there, settling_was}
+use Rattle.segments.specs.lemmas.adding.Write.{ArePages}
+use Rattle.segments.specs.lemmas.replay.Kept.{short_length}
 use Rattle.sealed_pages.specs.Buffer.{size_of, bytes_of}
 use Rattle.sealed_pages.specs.Entries.{IsOpenAt}
-use Rattle.sealed_pages.proofs.memory.Holding.{bytes_length}
-use Rattle.sealed_pages.proofs.looking.Looking.{unchanged_now}
-use Rattle.sealed_pages.proofs.Reaching.{prefix_size}
-use Rattle.sealed_pages.proofs.UnrecoveredLemmas.{adopted_backed}
 use Rattle.section_manager.specs.declared.buffer.SectionBuffer as buffer
 use Rattle.section_manager.specs.declared.journal.Damage.{Damage}
 use Rattle.section_manager.specs.declared.journal.Error.{Error}
@@ -46,12 +49,9 @@ use Rattle.section_manager.specs.Sealed.{adopted_bytes}
 use Rattle.section_manager.specs.SealedLaws.{all_settled}
 use Rattle.section_manager.specs.Sections.{Sections, section_key, key_of, IsHeld, StandsOver, IsOver}
 use Rattle.section_manager.specs.Setting.{Setting}
-use Rattle.section_manager.proofs.InitLemmas.{settling_was, settling_there, settling_content}
 use Rattle.section_manager.specs.lemmas.Keys.{keys_differ}
 use Rattle.segments.specs.FixedFloors.{Floors, AreAdopted, IsBoundary, Keeps, KeepsBoundary, IsUnsealed, IsRefused}
 use Rattle.segments.specs.FixedLists.{floor_in, bytes_held, size_held, section_bytes, section_size}
-use Rattle.segments.proofs.replay.Kept.{short_length}
-use Rattle.segments.proofs.adding.WriteLemmas.{ArePages}
 use Rattle.blob_device.proofs.general.Numbers.{same_number, times_next}
 use Rattle.blob_device.proofs.general.Options.{has_value, none_or_value, some_same, value_of}
 use Rattle.blob_device.proofs.general.Results.{on_err}

@@ -33,9 +33,10 @@ use Rattle.segments.specs.FixedLists.{Lists}
 use Rattle.segments.specs.FixedOpens.{Opens}
 use Rattle.segments.specs.FixedPreflight.{ChecksFloors}
 use Rattle.segments.proofs.opened.FloorLemmas.{Checked, Marks, was_there, marker_refused, marker_codec, none_refused, not_damaged, not_coded}
-use Rattle.segments.proofs.held.Passing.{error_back, opening_on, checked_on, checked_named, owing_cause, owing_coded}
+use Rattle.segments.proofs.held.Passing.{opening_on, checked_on, checked_named, owing_cause, owing_coded}
 use Rattle.segments.proofs.opened.Stages.{Stage, stage_read}
 use Rattle.blob_device.proofs.general.Numbers.{same_number}
+use Rattle.segments.specs.lemmas.held.Passing.{error_back}
 
 -- ---- the sections of which markers were gone over
 pub all_taken : (m : tree.BTreeMap ℕ ℕ) (keys : List ℕ) → keys ≡ keys_of m.entries → (s : ℕ) → IsSome (tree.get nat_cmp m s) → Contains keys s

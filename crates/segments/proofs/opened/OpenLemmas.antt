@@ -22,8 +22,8 @@ use Rattle.section_manager.specs.SealedLaws.{all_settled}
 use Rattle.section_manager.specs.Sections.{Sections, section_key, key_of, IsHeld, IsOver}
 use Rattle.section_manager.specs.Setting.{Setting}
 use Rattle.segments.specs.FixedLists.{floor_in, size_held, section_size, section_bytes, IsJournal}
-use Rattle.segments.proofs.adding.WriteLemmas.{ArePages, journal_of}
-use Rattle.segments.proofs.cutting.CutLemmas.{empty_sealed}
+use Rattle.segments.specs.lemmas.adding.Write.{ArePages, journal_of}
+use Rattle.segments.specs.lemmas.cutting.Cut.{empty_sealed}
 use Rattle.blob_device.proofs.general.Options.{none_or_value}
 
 size_some : {S : Type 0} {gs : _} (o : Option (PageBlob S gs)) → 0 < size_held o → IsSome o

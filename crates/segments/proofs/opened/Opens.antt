@@ -18,12 +18,12 @@ use Rattle.section_manager.specs.declared.journal.Error.{Error}
 use Rattle.section_manager.specs.declared.journal.Error.TheVariants.{InvalidBlobName, Mem}
 use Rattle.section_manager.specs.declared.sealed.AppendFactory.{AppendFactory}
 use Rattle.section_manager.specs.declared.unopened.Unopened.TheVariants.{Section, Leftover}
-use Rattle.section_manager.proofs.InitLemmas.{settling_start}
+use Rattle.sealed_pages.specs.lemmas.looking.Looking.{unchanged_start}
+use Rattle.section_manager.specs.lemmas.Init.{settling_start}
+use Rattle.segments.specs.lemmas.adding.Write.{ArePages}
 use Rattle.segments.specs.FixedLists.{Lists, floor_in, section_size}
 use Rattle.segments.specs.FixedOpens.{Opens}
 use Rattle.segments.proofs.opened.OpenLemmas.{no_floor, above_ceiling, opened_cause, opened_journal, opened_bytes}
-use Rattle.segments.proofs.adding.WriteLemmas.{ArePages}
-use Rattle.sealed_pages.proofs.looking.Looking.{unchanged_start}
 use Rattle.blob_device.proofs.general.Numbers.{no_rest}
 
 none_of : {T : Type 0} (o : Option T) → (IsSome o → ⊥) → o ≡ None

@@ -8,7 +8,8 @@ use Rattle.blob_device.specs.declared.device.Device as device
 use Rattle.sealed_pages.specs.Reading.{Unchanged}
 use Rattle.sealed_pages.specs.declared.page_blob.PageBlob.{PageBlob}
 use Rattle.sealed_pages.specs.declared.pages.Pages.{Pages}
-use Rattle.sealed_pages.proofs.looking.Looking.{unchanged_now}
+use Rattle.sealed_pages.specs.lemmas.looking.Looking.{unchanged_now}
+use Rattle.segments.specs.lemmas.adding.Write.{ArePages}
 use Rattle.value_codec.specs.declared.codec.Error as codec
 use Rattle.section_manager.specs.Lasting.{IsSettling}
 use Rattle.section_manager.specs.Refusing.{IsForeign}
@@ -26,7 +27,6 @@ use Rattle.segments.proofs.checkpoint.Earlier.{Come, come_moved}
 use Rattle.segments.proofs.opened.FloorLemmas.{AreOpened, opened_read}
 use Rattle.segments.proofs.checkpoint.Found.{reaches}
 use Rattle.segments.proofs.checkpoint.Preflights.{adopted_of, held_of, settling_more, looks_at, come_at, checks_looks}
-use Rattle.segments.proofs.adding.WriteLemmas.{ArePages}
 
 module _ {S D : Type 0} {gs : _} (seal : List ℕ → ℕ) (g : buffer.Ghosts (PageBlob S gs)) (gives : AppendFactory S → Setting) (dev : device.Ghosts D) (p : List ℕ) (paged : Pages) (capacity at : ℕ) (old : D) where
   -- The sections m, at this state of the device.

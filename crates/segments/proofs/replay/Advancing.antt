@@ -8,7 +8,7 @@ use Rattle.blob_device.specs.Disk.{Disk}
 use Rattle.sealed_pages.specs.Readers.{next_of}
 use Rattle.sealed_pages.specs.Reads.{IsCovered}
 use Rattle.sealed_pages.specs.declared.page_blob.PageBlob.{PageBlob}
-use Rattle.sealed_pages.proofs.memory.Holding.{fit_size}
+use Rattle.sealed_pages.specs.lemmas.memory.Holding.{fit_size}
 use Rattle.section_manager.specs.Sections.{key_of}
 use Rattle.segments.specs.FixedCursor.{after_items, leaving}
 use Rattle.segments.specs.FixedReplay.{Place, Walk, IsAhead, StandsIn, ReadsIn, HasWalk, WalksOver}

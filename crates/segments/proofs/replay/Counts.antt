@@ -14,7 +14,7 @@ use Rattle.sealed_pages.specs.Reads.{pages_for}
 use Rattle.section_manager.specs.Sections.{IsHeld}
 use Rattle.segments.specs.FixedReplay.{Place, Walk, IsAhead, IsIn}
 use Rattle.segments.specs.FixedStepping.{standing, ahead_count, place_count, held_count, reads_left}
-use Rattle.segments.proofs.replay.Walks.{OnlyOne, IsBehind}
+use Rattle.segments.specs.lemmas.replay.Walks.{IsBehind, OnlyOne}
 
 -- the replay stands in another section
 place_none : (o : Option Place) (t more x : ℕ) → (IsSomeAnd o (λ r. r.section ≡ t) → ⊥) → place_count o t more x ≡ x

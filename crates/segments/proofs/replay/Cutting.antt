@@ -11,7 +11,9 @@ use Rattle.sealed_pages.specs.Shown.{shown}
 use Rattle.sealed_pages.specs.Buffer.{size_of, IsSealed}
 use Rattle.sealed_pages.specs.ChanceSeal.{NoChanceSeal, Leaves, Sealing}
 use Rattle.sealed_pages.specs.SealedPrefix.{Prefix, sealed_prefix}
-use Rattle.sealed_pages.proofs.cutting.Calls.{prefix_whole}
+use Rattle.sealed_pages.specs.lemmas.cutting.Calls.{prefix_whole}
+use Rattle.segments.specs.lemmas.replay.Walks.{MayCut, key_new, later_one}
+use Rattle.segments.specs.lemmas.replay.WalksOn.{moments_of, replaying_here}
 use Rattle.value_codec.specs.declared.codec.Error as codec
 use Rattle.section_manager.specs.declared.buffer.SectionBuffer as buffer
 use Rattle.section_manager.specs.declared.journal.Damage.{Damage}
@@ -30,8 +32,6 @@ use Rattle.segments.proofs.replay.Kept.{whole_place}
 use Rattle.segments.proofs.replay.Reading.{here, kept_owed, ahead_here, number_here, reached_here, behind_here}
 use Rattle.segments.specs.lemmas.FixedOwed.{items_cut}
 use Rattle.segments.proofs.replay.Steps.{Called, Answered, call_failed, call_ended, call_refused}
-use Rattle.segments.proofs.replay.Walks.{MayCut, key_new, later_one}
-use Rattle.segments.proofs.replay.WalksOn.{replaying_here, moments_of}
 use Rattle.blob_device.proofs.general.Options.{none_in, same_some}
 
 -- of a prefix of the bytes a crash leaves a prefix of them

@@ -16,8 +16,10 @@ use Rattle.sealed_pages.specs.SealedPrefix.{sealed_prefix}
 use Rattle.sealed_pages.specs.Reads.{IsShort}
 use Rattle.sealed_pages.specs.Shown.{shown}
 use Rattle.sealed_pages.specs.declared.page_blob.PageBlob.{PageBlob}
-use Rattle.sealed_pages.proofs.memory.Holding.{bytes_length}
-use Rattle.sealed_pages.proofs.cutting.Truncating.{all_flushed, settles_of}
+use Rattle.sealed_pages.specs.lemmas.cutting.Truncating.{all_flushed, settles_of}
+use Rattle.sealed_pages.specs.lemmas.memory.Holding.{bytes_length}
+use Rattle.segments.specs.lemmas.replay.Walks.{same_bytes}
+use Rattle.segments.specs.lemmas.replay.WalksOn.{replaying_start}
 use Rattle.value_codec.specs.declared.codec.Error as codec
 use Rattle.section_manager.specs.Answers.{seen}
 use Rattle.section_manager.specs.Sections.{Sections, section_key, key_of, IsHeld, IsKeyOf, IsOver, SameBounds}
@@ -36,8 +38,6 @@ use Rattle.segments.specs.FixedStepping.{reads_left, ReadsOnce}
 use Rattle.segments.proofs.replay.Kept.{short_item}
 use Rattle.segments.specs.lemmas.FixedOwed.{same_items, items_then, same_or_cut, cut_then}
 use Rattle.segments.proofs.replay.Running.{idle_after}
-use Rattle.segments.proofs.replay.Walks.{same_bytes}
-use Rattle.segments.proofs.replay.WalksOn.{replaying_start}
 use Rattle.blob_device.proofs.general.Numbers.{no_rest, times_more}
 use Rattle.blob_device.proofs.general.Options.{has_value, none_in, same_some, some_of, some_there, value_of}
 

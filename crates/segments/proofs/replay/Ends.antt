@@ -11,14 +11,15 @@ use Rattle.sealed_pages.specs.Buffer.{size_of, IsSealed}
 use Rattle.sealed_pages.specs.Readers.{next_of}
 use Rattle.sealed_pages.specs.Reads.{IsShort}
 use Rattle.sealed_pages.specs.Unrecovered.{IsAdopted}
-use Rattle.sealed_pages.proofs.memory.Holding.{bytes_length}
+use Rattle.sealed_pages.specs.lemmas.memory.Holding.{bytes_length}
+use Rattle.segments.specs.lemmas.replay.Kept.{covered_length, sealed_by_length, sealed_flushed, short_length}
 use Rattle.section_manager.specs.declared.buffer.SectionBuffer as buffer
 use Rattle.section_manager.specs.Setting.{Setting}
 use Rattle.section_manager.specs.Sections.{key_of}
 use Rattle.segments.specs.FixedLists.{IsProven}
 use Rattle.segments.specs.FixedReplay.{Place, Walk, IsReadWhole, IsWalk, kept_bytes}
 use Rattle.segments.specs.FixedStepping.{standing, EndsAt}
-use Rattle.segments.proofs.replay.Kept.{next_within, short_length, sealed_flushed, sealed_by_length, covered_length}
+use Rattle.segments.proofs.replay.Kept.{next_within}
 use Rattle.segments.proofs.replay.Reading.{here, reads_here, kept_owed, kept_free}
 use Rattle.blob_device.proofs.general.Numbers.{last_place, times_next}
 

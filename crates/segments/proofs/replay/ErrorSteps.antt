@@ -5,7 +5,7 @@ use Rattle.std.proofs.Common.{inl, inr, ◌∙◌, arith}
 use Rattle.blob_device.specs.Counts.{Rose}
 use Rattle.blob_device.specs.declared.runtime.RError.{RError}
 use Rattle.blob_device.specs.declared.runtime.RError.TheVariants as runtime
-use Rattle.sealed_pages.proofs.cutting.Truncating.{rose_since}
+use Rattle.sealed_pages.specs.lemmas.cutting.Truncating.{rose_since}
 use Rattle.section_manager.specs.declared.journal.Error.{Error}
 use Rattle.value_codec.specs.declared.codec.Error as codec
 use Rattle.section_manager.specs.declared.journal.Error.TheVariants.{Runtime, Codec, Mem, ItemOutOfRange}

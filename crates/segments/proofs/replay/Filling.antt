@@ -29,9 +29,9 @@ use Rattle.segments.specs.FixedCursor.{Fills, IsFoundShort}
 use Rattle.segments.specs.FixedReplay.{Place, Walk, IsWalk, kept_bytes}
 use Rattle.segments.specs.FixedStepping.{standing}
 use Rattle.segments.proofs.replay.Ends.{count_all, short_owed}
-use Rattle.segments.proofs.replay.Kept.{range_kept, short_length}
+use Rattle.segments.specs.lemmas.replay.Kept.{range_kept, short_length}
+use Rattle.segments.specs.lemmas.replay.WalksOn.{walk_broken}
 use Rattle.segments.proofs.replay.Reading.{count_read, here, kept_data, kept_owed, long_here, reads_here, some_and, walk_read}
-use Rattle.segments.proofs.replay.WalksOn.{walk_broken}
 
 ok_is : (a b : Bool) → ◌≡◌ {A = Result Bool Error} (Ok a) (Ok b) → a ≡ b
 ok_is a b is = cc is

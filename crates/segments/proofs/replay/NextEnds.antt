@@ -16,7 +16,7 @@ use Rattle.segments.specs.FixedReading.{HasNotRead, IsBelowFloor}
 use Rattle.segments.specs.FixedReplay.{Walk, IsDrained, SameWalk}
 use Rattle.segments.specs.FixedStepping.{failing, Steps}
 use Rattle.segments.proofs.replay.Running.{Running, ok_at, err_at, idle_after, left_none, same_after, nearer_after, bytes_after, onward_after, stays_after, floors_after, items_after, later_after, moments_after, entries_after, once_after, faults_after, gives_after, stops_after, damaged_after, refused_after, ends_after, ends_cut_after, start_after, damage_after, cause_after}
-use Rattle.segments.proofs.adding.WriteLemmas.{ArePages}
+use Rattle.segments.specs.lemmas.adding.Write.{ArePages}
 
 -- an error is none of the other answers
 never_errs : {V : Type 0} (e : Error) → HasNoError {V = V} (Some (Err e)) → ⊥

@@ -16,9 +16,11 @@ use Rattle.sealed_pages.specs.Readers.{Reader, IsReplayOf}
 use Rattle.sealed_pages.specs.Reads.{pages_for}
 use Rattle.sealed_pages.specs.SealedPrefix.{sealed_prefix}
 use Rattle.sealed_pages.specs.Unrecovered.{IsUnrecovered, IsAdopted, HasPrefix, KeepsPrefix}
-use Rattle.sealed_pages.proofs.memory.Holding.{fit_size}
-use Rattle.sealed_pages.proofs.looking.ReplayLemmas.{covered_none}
-use Rattle.sealed_pages.proofs.UnrecoveredLemmas.{prefix_leaves}
+use Rattle.sealed_pages.specs.lemmas.Unrecovered.{prefix_leaves}
+use Rattle.sealed_pages.specs.lemmas.looking.Replay.{covered_none}
+use Rattle.sealed_pages.specs.lemmas.memory.Holding.{fit_size}
+use Rattle.segments.specs.lemmas.replay.Walks.{IsBehind, IsReached, MayCut, MayFlush, MayPrefix, first_same, held_back, held_on, kept_other, key_new, later_one}
+use Rattle.segments.specs.lemmas.replay.WalksOn.{IsKnownAgain, moments_of, replaying_here, replaying_start}
 use Rattle.value_codec.specs.declared.codec.Error as codec
 use Rattle.section_manager.specs.declared.buffer.SectionBuffer as buffer
 use Rattle.section_manager.specs.declared.journal.Error.{Error}
@@ -35,8 +37,6 @@ use Rattle.segments.proofs.replay.Reading.{here}
 use Rattle.segments.proofs.replay.ErrorSteps.{failed_other, failed_sound, failed_not_codec}
 use Rattle.segments.specs.lemmas.FixedOwed.{same_items}
 use Rattle.segments.proofs.replay.Steps.{Called, call_failed, call_passed}
-use Rattle.segments.proofs.replay.Walks.{IsBehind, IsReached, MayCut, MayFlush, MayPrefix, key_new, first_same, held_back, held_on, kept_other, later_one}
-use Rattle.segments.proofs.replay.WalksOn.{IsKnownAgain, replaying_start, replaying_here, moments_of}
 use Rattle.blob_device.proofs.general.Options.{none_in, same_some, some_of, some_there, the_some}
 
 -- the start's section is given from the start on

@@ -21,9 +21,11 @@ use Rattle.sealed_pages.specs.View.{view}
 use Rattle.sealed_pages.specs.Buffer.{bytes_of}
 use Rattle.sealed_pages.specs.SealedPrefix.{sealed_prefix, data_from}
 use Rattle.sealed_pages.specs.Unrecovered.{IsAdopted}
-use Rattle.sealed_pages.proofs.memory.Holding.{bytes_length}
-use Rattle.sealed_pages.proofs.looking.ReplayLemmas.{data_drop, covered_rest}
-use Rattle.sealed_pages.proofs.cutting.Truncating.{rose_since}
+use Rattle.sealed_pages.specs.lemmas.looking.Replay.{covered_rest, data_drop}
+use Rattle.sealed_pages.specs.lemmas.memory.Holding.{bytes_length}
+use Rattle.segments.specs.lemmas.replay.Kept.{covered_length, covered_on, flushed_data, item_kept, prefix_data}
+use Rattle.segments.specs.lemmas.replay.Walks.{IsBehind, IsReached, left_later, same_bytes}
+use Rattle.segments.specs.lemmas.replay.WalksOn.{replaying_start}
 use Rattle.section_manager.specs.declared.buffer.SectionBuffer as buffer
 use Rattle.section_manager.specs.declared.journal.Error.{Error}
 use Rattle.section_manager.specs.declared.journal.Damage.{Damage}
@@ -33,7 +35,6 @@ use Rattle.value_codec.specs.declared.codec.Error as codec
 use Rattle.section_manager.specs.Setting.{Setting}
 use Rattle.section_manager.specs.Sections.{Sections, key_of, IsHeld, IsKeyOf, HasOpened, StandsOver}
 use Rattle.section_manager.specs.Entries.{OnlyOwnEntry}
-use Rattle.section_manager.specs.Refusing.{HasFailed}
 use Rattle.section_manager.specs.lemmas.Keys.{keys_differ}
 use Rattle.segments.specs.FixedItems.{item_at, IsItem}
 use Rattle.segments.specs.FixedReading.{HasNotRead, IsBelowFloor}
@@ -41,30 +42,16 @@ use Rattle.segments.specs.FixedLists.{section_size}
 use Rattle.segments.specs.FixedReplay.{Place, Walk, IsAhead, IsIn, IsReadWhole, IsLeft, SameWalk, IsWalk, WalksOver, StandsBefore, KeepsItems, IsFromCovered, Gives, Refuses, IsEndedAt, Stops, Replaying, LeavesNoMore, EndsBelow, EndsDamaged, StandsIn, ReadsIn, kept_of, kept_bytes, first_of}
 use Rattle.segments.specs.FixedStepping.{standing, after_item, bytes_ahead, way_of, reads_left, ReadsOnce, GoesOn, Carries, EndsAt, Steps}
 use Rattle.segments.proofs.replay.Counts.{count_here, count_apart, count_same}
-use Rattle.segments.proofs.replay.Kept.{covered_on, covered_length, item_kept, prefix_data, flushed_data}
 use Rattle.segments.proofs.replay.Ending.{ahead_from}
 use Rattle.segments.specs.lemmas.FixedOwed.{same_items, same_or_cut}
-use Rattle.segments.proofs.replay.Walks.{IsBehind, IsReached, same_bytes, left_later}
-use Rattle.segments.proofs.replay.WalksOn.{replaying_start}
 use Rattle.segments.proofs.replay.Stopping.{ended_back, ended_here}
 use Rattle.segments.proofs.replay.Steps.{Called, Answered, call_stopped, call_failed, call_ended, call_refused}
 use Rattle.blob_device.proofs.general.Numbers.{times_next}
 use Rattle.blob_device.proofs.general.Options.{none_in, same_some, some_there, the_some}
+use Rattle.segments.specs.lemmas.replay.Reading.{failed_since, not_read_since}
 
 pub some_and : {A : Type 0} (P : A → Type 0) → (o : Option A) (v : A) → o ≡ Some v → P v → IsSomeAnd o P
 some_and {A = A} P o v is has = subst (λ (x : Option A). IsSomeAnd x P) (sym is) has
-
-pub not_read_since : {T : Type 0} (x : Result T Error) (few some many : ℕ) → few ≤ some → HasNotRead x some many → HasNotRead x few many
-not_read_since x few some many le has = elim has [
-  | inl damage ↦ inl damage
-  | inr other ↦ inr (elim other [
-    | inl code ↦ inl code
-    | inr failed ↦ inr (elim failed [ inl mem ↦ inl mem | inr fault ↦ inr (fault.0, rose_since few some many le fault.1) ])
-  ])
-]
-
-pub failed_since : {T : Type 0} (x : Result T Error) (few some many : ℕ) → few ≤ some → HasFailed x some many → HasFailed x few many
-failed_since x few some many le has = elim has [ inl mem ↦ inl mem | inr fault ↦ inr (fault.0, rose_since few some many le fault.1) ]
 
 -- the reader behind n bytes
 pub advanced : (seal : List ℕ → ℕ) (content : List ℕ) (n : ℕ) (r : Reader) → n ≤ length r.bytes → IsReplayOf seal content r → IsReplayOf seal content (record r { at = r.at + n; bytes = drop n r.bytes })

@@ -27,10 +27,10 @@ use Rattle.segments.specs.FixedReplay.{Walk, IsAhead, IsIn, IsLeft, IsDrained, S
 use Rattle.segments.specs.FixedStepping.{failing, way_of, reads_left, ReadsOnce, GoesOn, Carries, Steps}
 use Rattle.segments.proofs.replay.Stopping.{ended_back, ended_failing}
 use Rattle.segments.specs.lemmas.FixedOwed.{same_items, items_then, same_or_cut, cut_then}
-use Rattle.segments.proofs.replay.Reading.{not_read_since, failed_since}
-use Rattle.segments.proofs.replay.Walks.{same_bytes, in_section}
+use Rattle.segments.specs.lemmas.replay.Reading.{failed_since, not_read_since}
+use Rattle.segments.specs.lemmas.replay.Walks.{in_section, same_bytes}
+use Rattle.segments.specs.lemmas.replay.WalksOn.{replaying_start}
 use Rattle.segments.proofs.adding.WriteLemmas.{settled_idle}
-use Rattle.segments.proofs.replay.WalksOn.{replaying_start}
 use Rattle.blob_device.proofs.general.Options.{none_in, same_some, some_of, some_there}
 
 module _ {F S : Type 0} {gs : _} (seal : List ℕ → ℕ) (size : ℕ) (g : buffer.Ghosts (PageBlob S gs)) (gives : F → Setting) {told : Type 0} {w v : Walk F (PageBlob S gs)} where

@@ -10,8 +10,12 @@ use Rattle.sealed_pages.specs.ChanceSeal.{Sealing}
 use Rattle.sealed_pages.specs.SealedPrefix.{sealed_prefix}
 use Rattle.sealed_pages.specs.Shown.{shown}
 use Rattle.sealed_pages.specs.declared.page_blob.PageBlob.{PageBlob}
-use Rattle.sealed_pages.proofs.memory.Holding.{bytes_length}
-use Rattle.sealed_pages.proofs.cutting.Truncating.{all_flushed}
+use Rattle.sealed_pages.specs.lemmas.cutting.Truncating.{all_flushed}
+use Rattle.sealed_pages.specs.lemmas.memory.Holding.{bytes_length}
+use Rattle.segments.specs.lemmas.adding.Write.{bytes_here}
+use Rattle.segments.specs.lemmas.replay.Kept.{sealed_flushed}
+use Rattle.segments.specs.lemmas.replay.Walks.{IsBehind, OnlyOne, blob_other, key_new}
+use Rattle.segments.specs.lemmas.replay.WalksOn.{IsKnownAgain, walk_broken, walk_on}
 use Rattle.section_manager.specs.Sections.{key_of}
 use Rattle.section_manager.specs.Setting.{Setting}
 use Rattle.section_manager.specs.declared.buffer.SectionBuffer as buffer
@@ -21,10 +25,6 @@ use Rattle.segments.specs.FixedLists.{section_bytes, size_held}
 use Rattle.segments.specs.FixedReplay.{Walk, IsAhead, IsWalk}
 use Rattle.segments.specs.FixedStepping.{failing, OnlySections, Touches, IsCutBack}
 use Rattle.segments.proofs.replay.Ending.{ahead_from}
-use Rattle.segments.proofs.replay.Kept.{sealed_flushed}
-use Rattle.segments.proofs.adding.WriteLemmas.{bytes_here}
-use Rattle.segments.proofs.replay.Walks.{IsBehind, OnlyOne, blob_other, key_new}
-use Rattle.segments.proofs.replay.WalksOn.{IsKnownAgain, walk_broken, walk_on}
 use Rattle.blob_device.proofs.general.Options.{none_in}
 
 -- as many bytes, by another name

@@ -25,8 +25,8 @@ use Rattle.segments.specs.FixedStepping.{word, sections_ahead, bytes_ahead, way_
 use Rattle.segments.proofs.replay.Counts.{count_other, count_over}
 use Rattle.segments.proofs.replay.Kept.{short_item}
 use Rattle.segments.specs.lemmas.FixedOwed.{same_items, same_or_cut}
-use Rattle.segments.proofs.replay.Walks.{OnlyOne, IsBehind, IsReached, same_bytes, key_new, blob_other, held_back, held_on, kept_other, not_ahead, not_near, left_first, left_later, left_all}
-use Rattle.segments.proofs.replay.WalksOn.{walk_broken, IsKnownAgain, walk_on, walk_refused}
+use Rattle.segments.specs.lemmas.replay.Walks.{IsBehind, IsReached, OnlyOne, blob_other, held_back, held_on, kept_other, key_new, left_all, left_first, left_later, not_ahead, not_near, same_bytes}
+use Rattle.segments.specs.lemmas.replay.WalksOn.{IsKnownAgain, walk_broken, walk_on, walk_refused}
 use Rattle.blob_device.proofs.general.Options.{none_in, same_some, some_there}
 
 -- an error of a reading is none of a floor

@@ -11,7 +11,7 @@ use Rattle.sealed_pages.specs.Readers.{next_of}
 use Rattle.sealed_pages.specs.Shown.{shown}
 use Rattle.sealed_pages.specs.Unrecovered.{IsAdopted}
 use Rattle.sealed_pages.specs.declared.page_blob.PageBlob.{PageBlob}
-use Rattle.sealed_pages.proofs.memory.Holding.{fit_size}
+use Rattle.sealed_pages.specs.lemmas.memory.Holding.{fit_size}
 use Rattle.value_codec.specs.declared.codec.Error as codec
 use Rattle.section_manager.specs.Setting.{Setting}
 use Rattle.section_manager.specs.declared.buffer.SectionBuffer as buffer

@@ -1,6 +1,6 @@
 use Rattle.std.proofs.Common.{IsSome, length, sym, subst, arith}
 use Rattle.blob_device.specs.Disk.{Key}
-use Rattle.blob_device.proofs.StaysLemmas.{stays_start, stays_on}
+use Rattle.blob_device.specs.lemmas.Stays.{stays_on, stays_start}
 use Rattle.blob_device.specs.lemmas.Opened.{entered_open, entered_other, updated_open}
 use Rattle.blob_device.specs.Opened.{OpenedList}
 use Rattle.append_log.proofs.AppendedLemmas.{leaves, holds_stays, len_is, added, no_room, others_opened, others_grown}

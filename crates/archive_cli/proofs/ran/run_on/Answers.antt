@@ -1,4 +1,4 @@
-use Rattle.archive_program.proofs.WordsLemmas.{status_for}
+use Rattle.archive_program.specs.lemmas.Words.{status_for}
 use Rattle.archive_cli.proofs.ran.run_on.Goals as goal
 
 pub returns : goal.returns

@@ -2,7 +2,7 @@
 use Rattle.std.proofs.Common.{[], refl, sym, subst, rules, arith}
 use Rattle.std.specs.List.{AllByRecursion}
 use Rattle.archive_service.specs.Script.{CanBeSaid}
-use Rattle.archive_service.proofs.MadeLemmas.{made_said}
+use Rattle.archive_service.specs.lemmas.Made.{made_said}
 use Rattle.archive_program.specs.Words.{Make}
 use Rattle.archive_program.proofs.ServedLemmas.{commands_answered, not_answered, run_answered}
 use Rattle.archive_program.proofs.answer.answer_made.Goals as goal

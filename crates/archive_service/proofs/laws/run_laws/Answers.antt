@@ -1,4 +1,4 @@
-use Rattle.archive_service.proofs.RunLemmas.{laws_of_run}
+use Rattle.archive_service.specs.lemmas.Run.{laws_of_run}
 use Rattle.archive_service.proofs.laws.run_laws.Goals as goal
 
 pub returns : goal.returns

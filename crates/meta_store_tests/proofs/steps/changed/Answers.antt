@@ -6,7 +6,7 @@ use Rattle.value_codec.specs.declared.seal.Sha256Seal.{Sha256Seal}
 use Rattle.meta_store.specs.declared.metadata.Metadata.{Metadata}
 use Rattle.meta_store.specs.Lends.{WroteValue, SameMap}
 use Rattle.meta_store.specs.Store.{Store, shown, MayBeSynced}
-use Rattle.meta_store.proofs.Uses.{wrote_storable}
+use Rattle.meta_store.specs.lemmas.Uses.{wrote_storable}
 use Rattle.meta_store_tests.specs.Over.{map_format}
 use Rattle.meta_store_tests.proofs.steps.changed.Goals as goal
 use Rattle.meta_store_tests.proofs.steps.changed.Goals.{in-Some, in-None}

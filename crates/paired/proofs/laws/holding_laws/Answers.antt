@@ -1,4 +1,4 @@
-use Rattle.paired.proofs.pair.Holding.{leaves_of}
+use Rattle.paired.specs.lemmas.pair.Holding.{leaves_of}
 use Rattle.paired.proofs.laws.holding_laws.Goals as goal
 
 pub returns : goal.returns

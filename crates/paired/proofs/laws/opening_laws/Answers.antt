@@ -1,6 +1,7 @@
 use Rattle.paired.specs.Opening.{APrefix, Same, UpTo}
-use Rattle.paired.proofs.opening.Ends.{by_same, prefix_order, up_to_order}
-use Rattle.paired.proofs.opening.Laws.{nothing_pending, recalls_all, recalls_all_by, recalls_on, recalls_on_by, recalls_weaker}
+use Rattle.paired.proofs.opening.Ends.{prefix_order, up_to_order}
+use Rattle.paired.specs.lemmas.opening.Ends.{by_same}
+use Rattle.paired.specs.lemmas.opening.Laws.{nothing_pending, recalls_all, recalls_all_by, recalls_on, recalls_on_by, recalls_weaker}
 use Rattle.paired.proofs.laws.opening_laws.Goals as goal
 
 pub returns-clause-pending : goal.returns-clause-pending

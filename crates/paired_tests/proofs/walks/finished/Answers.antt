@@ -1,6 +1,6 @@
 -- The pair that a replay gives back may be used.
 use Rattle.std.proofs.Common.{◌≡◌, Bool, true, false, inl, refl}
-use Rattle.paired.proofs.GivenBack.{given_back}
+use Rattle.paired.specs.lemmas.GivenBack.{given_back}
 use Rattle.paired_tests.proofs.walks.finished.Goals as goal
 
 going : (b : Bool) → (b ≡ true → ⊥) → b ≡ false

@@ -4,8 +4,9 @@ use Rattle.std.proofs.Common.{not, refl, arith, rules, inl, inr}
 use Rattle.sealed_pages.proofs.cutting.Calls.{zeros_one, zeros_two, settled_after, not_other}
 use Rattle.sealed_pages.specs.lemmas.Entries.{open_some, open_same, open_written, no_reads_part, no_reads_updated, no_reads_open}
 use Rattle.sealed_pages.proofs.slots.PageCalls.{passes_as}
-use Rattle.sealed_pages.proofs.slots.Steps.{slot_high, slot_low}
-use Rattle.sealed_pages.proofs.Prefixes.{prefix_start, prefix_write}
+use Rattle.sealed_pages.specs.lemmas.Prefixes.{prefix_start}
+use Rattle.sealed_pages.specs.lemmas.slots.Steps.{slot_high, slot_low}
+use Rattle.sealed_pages.proofs.Prefixes.{prefix_write}
 use Rattle.sealed_pages.specs.View.{page_at}
 use Rattle.sealed_pages.specs.SlotNames.{is_b, opened_key}
 use Rattle.sealed_pages.proofs.cut.clear_slot.Goals as goal

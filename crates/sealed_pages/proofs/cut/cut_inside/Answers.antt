@@ -1,6 +1,6 @@
 use Rattle.std.proofs.Common.{arith, rules, refl, inl, inr}
 use Rattle.sealed_pages.proofs.cutting.Inside.{slot_as, cut_failed, add_failed, cleared}
-use Rattle.sealed_pages.proofs.slots.SlotLemmas.{page_next}
+use Rattle.sealed_pages.specs.lemmas.slots.Slot.{page_next}
 use Rattle.sealed_pages.specs.SlotNames.{is_b, opened_key}
 use Rattle.sealed_pages.proofs.cut.cut_inside.Goals as goal
 use Rattle.blob_device.proofs.general.Results.{err_of}

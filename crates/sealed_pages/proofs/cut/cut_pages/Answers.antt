@@ -7,11 +7,12 @@ use Rattle.sealed_pages.proofs.cutting.Calls.{cut_one, cut_two, settled_after}
 use Rattle.sealed_pages.proofs.cutting.Entries.{resized_open}
 use Rattle.sealed_pages.specs.lemmas.Entries.{no_reads_resize, no_reads_updated, no_reads_open, open_same}
 use Rattle.sealed_pages.proofs.adopted.Keeping.{resize_as}
-use Rattle.sealed_pages.proofs.Prefixes.{prefix_start, prefix_resize}
+use Rattle.sealed_pages.proofs.Prefixes.{prefix_resize}
 use Rattle.sealed_pages.specs.View.{page_at}
 use Rattle.sealed_pages.specs.SlotNames.{opened_key}
 use Rattle.sealed_pages.proofs.cut.cut_pages.Goals as goal
 use Rattle.blob_device.proofs.general.Results.{err_of}
+use Rattle.sealed_pages.specs.lemmas.Prefixes.{prefix_start}
 
 pub sync-requires : goal.sync-requires
 sync-requires g c = no_reads_open _ _ _ (no_reads_updated (opened_key c.args.blob.now) _ _ (λ o. c.page_place-place.result) c.in_ok-resize.ensures.opened c.requires.«open»)

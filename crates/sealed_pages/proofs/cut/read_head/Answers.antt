@@ -4,7 +4,7 @@ use Rattle.blob_device.specs.Timeline.{disk}
 use Rattle.sealed_pages.proofs.cutting.Entries.{few_once, read_open}
 use Rattle.sealed_pages.proofs.cutting.Heads.{end_is, Looked, looked, none_there, keep_inside, is_covered, is_refused, is_best, head_is}
 use Rattle.sealed_pages.specs.lemmas.Entries.{open_some}
-use Rattle.sealed_pages.proofs.looking.Looking.{unchanged_on, unchanged_start}
+use Rattle.sealed_pages.specs.lemmas.looking.Looking.{unchanged_on, unchanged_start}
 use Rattle.sealed_pages.specs.SlotNames.{opened_key}
 use Rattle.sealed_pages.proofs.cut.read_head.Goals as goal
 

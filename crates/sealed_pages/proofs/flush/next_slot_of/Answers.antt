@@ -1,5 +1,5 @@
 use Rattle.std.proofs.Common.{◌≡◌, ◌*◌, arith, ℕ, ap}
-use Rattle.sealed_pages.proofs.slots.SlotLemmas.{times_page}
+use Rattle.sealed_pages.specs.lemmas.slots.Slot.{times_page}
 use Rattle.sealed_pages.proofs.flush.next_slot_of.Goals as goal
 
 pub overflow_mul-page : goal.overflow_mul-page

@@ -2,8 +2,8 @@ use Rattle.std.proofs.Common.{◌+◌, ◌-◌, ap, refl, length, take, drop, ma
 use Rattle.sealed_pages.specs.lemmas.Entries.{open_some, no_reads_updated, no_reads_part, no_reads_open, open_written}
 use Rattle.sealed_pages.proofs.slots.PageCalls.{passes_as, rest_whole}
 use Rattle.sealed_pages.proofs.PageWritten.{data_failed, slot_failed, page_written}
-use Rattle.sealed_pages.proofs.slots.SlotSteps.{length-slot_bytes}
-use Rattle.sealed_pages.proofs.slots.Steps.{slot_low, slot_high}
+use Rattle.sealed_pages.specs.lemmas.slots.SlotSteps.{length-slot_bytes}
+use Rattle.sealed_pages.specs.lemmas.slots.Steps.{slot_high, slot_low}
 use Rattle.sealed_pages.specs.SlotNames.{is_b, opened_key}
 use Rattle.sealed_pages.proofs.page.write_page.Goals as goal
 use Rattle.blob_device.proofs.general.Results.{err_of}

@@ -1,6 +1,6 @@
 use Rattle.std.proofs.Common.{◌≡◌, ◌+◌, ◌-◌, ◌*◌, ◌∙◌, ℕ, suc, ap, sym, arith}
 use Rattle.sealed_pages.specs.SealedPrefix.{size_below}
-use Rattle.sealed_pages.proofs.looking.Looking.{size_found, size_none, size_zero}
+use Rattle.sealed_pages.specs.lemmas.looking.Looking.{size_found, size_none, size_zero}
 use Rattle.sealed_pages.proofs.PlainLemmas.{size_within}
 use Rattle.sealed_pages.proofs.plain.adopted_size.Goals as goal
 

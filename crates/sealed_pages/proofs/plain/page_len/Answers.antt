@@ -1,5 +1,5 @@
 use Rattle.std.proofs.Common.{arith}
-use Rattle.sealed_pages.proofs.looking.Looking.{page_length_is}
+use Rattle.sealed_pages.specs.lemmas.looking.Looking.{page_length_is}
 use Rattle.sealed_pages.proofs.plain.page_len.Goals as goal
 
 pub returns : goal.returns

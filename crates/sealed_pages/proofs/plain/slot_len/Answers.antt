@@ -1,5 +1,5 @@
 use Rattle.std.proofs.Common.{◌+◌, ◌*◌, ◌∙◌, sym, arith}
-use Rattle.sealed_pages.proofs.looking.Looking.{slot_short, slot_long, slot_right, slot_wrong}
+use Rattle.sealed_pages.specs.lemmas.looking.Looking.{slot_long, slot_right, slot_short, slot_wrong}
 use Rattle.sealed_pages.proofs.PlainLemmas.{Spelled, page_begins, slot_begins, length_named, seal_named, seal_made}
 use Rattle.sealed_pages.proofs.plain.slot_len.Given as given
 use Rattle.sealed_pages.proofs.plain.slot_len.Goals as goal

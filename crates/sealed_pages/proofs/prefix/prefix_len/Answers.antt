@@ -9,12 +9,13 @@ use Rattle.sealed_pages.specs.SealedPrefix.{pages_in, sealed_from}
 use Rattle.sealed_pages.specs.Slots.{page_length}
 use Rattle.sealed_pages.specs.View.{page_at}
 use Rattle.sealed_pages.specs.lemmas.Entries.{reads_start, reads_more, reads_then}
-use Rattle.sealed_pages.proofs.looking.Looking.{content_length, unchanged_start, unchanged_now, unchanged_then}
+use Rattle.sealed_pages.specs.lemmas.cutting.Truncating.{rose_since}
+use Rattle.sealed_pages.specs.lemmas.looking.Looking.{content_length, unchanged_now, unchanged_start, unchanged_then}
+use Rattle.sealed_pages.specs.lemmas.slots.SealedBytes.{page_length-le}
+use Rattle.sealed_pages.specs.lemmas.slots.Slot.{page_apart}
 use Rattle.sealed_pages.proofs.looking.PieceLemmas.{piece_covered, sealed_full, sealed_last, sealed_behind}
 use Rattle.sealed_pages.proofs.looking.ReadLemmas.{data_fits}
-use Rattle.sealed_pages.proofs.slots.SealedBytes.{page_length-le}
-use Rattle.sealed_pages.proofs.slots.SlotLemmas.{page_apart}
-use Rattle.sealed_pages.proofs.cutting.Truncating.{no_value, raised_cause, rose_since}
+use Rattle.sealed_pages.proofs.cutting.Truncating.{no_value, raised_cause}
 use Rattle.sealed_pages.specs.SlotNames.{opened_key}
 use Rattle.sealed_pages.proofs.prefix.prefix_len.Given as given
 use Rattle.sealed_pages.proofs.prefix.prefix_len.Goals.{After-min-pages, After-load, After-covered_len-len}

@@ -1,5 +1,5 @@
 use Rattle.std.proofs.Common.{rules, Err, ap, arith}
-use Rattle.sealed_pages.proofs.looking.Looking.{unchanged_start}
+use Rattle.sealed_pages.specs.lemmas.looking.Looking.{unchanged_start}
 use Rattle.sealed_pages.specs.lemmas.Entries.{only_read_start}
 use Rattle.sealed_pages.proofs.looking.ReadLemmas.{found_is, found_room}
 use Rattle.sealed_pages.proofs.cutting.Truncating.{no_value, raised_cause}

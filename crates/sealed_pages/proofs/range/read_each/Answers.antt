@@ -17,10 +17,11 @@ use Rattle.sealed_pages.specs.Reads.{IsWanted, IsShort, needed}
 use Rattle.sealed_pages.specs.SealedPrefix.{place}
 use Rattle.sealed_pages.specs.Slots.{page_length}
 use Rattle.sealed_pages.specs.View.{view, page_at}
-use Rattle.sealed_pages.proofs.adopted.Adopt.{place_in}
+use Rattle.sealed_pages.specs.lemmas.adopted.Adopt.{place_in}
+use Rattle.sealed_pages.specs.lemmas.looking.Looking.{unchanged_now, unchanged_then}
+use Rattle.sealed_pages.specs.lemmas.looking.Read.{page_before, touched_upto}
 use Rattle.sealed_pages.specs.lemmas.Entries.{reads_then, reads_more}
-use Rattle.sealed_pages.proofs.looking.Looking.{unchanged_now, unchanged_then}
-use Rattle.sealed_pages.proofs.looking.ReadLemmas.{index_twice, filled, page_before, same_error, touched_upto, step_needed, step_next, step_reached, step_last, step_short, step_wanted}
+use Rattle.sealed_pages.proofs.looking.ReadLemmas.{index_twice, filled, same_error, step_needed, step_next, step_reached, step_last, step_short, step_wanted}
 use Rattle.sealed_pages.specs.SlotNames.{opened_key}
 use Rattle.sealed_pages.proofs.range.read_each.Given as given
 use Rattle.sealed_pages.proofs.range.read_each.Goals.{After-min-n, After-read_part}

@@ -1,4 +1,5 @@
-use Rattle.sealed_pages.proofs.looking.Looking.{unchanged_start}
+use Rattle.sealed_pages.specs.lemmas.looking.Looking.{unchanged_start}
+use Rattle.sealed_pages.specs.lemmas.memory.Cache.{found_page_has}
 use Rattle.sealed_pages.proofs.cutting.Truncating.{no_value}
 use Rattle.std.proofs.Common.{rules, ◌≡◌, ◌∙◌, ℕ, List, length, cond, ap, sym, subst, arith, Bool, refl, inl}
 use Rattle.std.specs.List.{list_any}
@@ -8,7 +9,6 @@ use Rattle.blob_device.specs.Timeline.{disk}
 use Rattle.sealed_pages.specs.Cached.{held_in, IsCachedOf}
 use Rattle.sealed_pages.specs.Entries.{ReadsAtMost}
 use Rattle.sealed_pages.specs.Slots.{page_length}
-use Rattle.sealed_pages.proofs.memory.CacheLemmas.{found_page_has}
 use Rattle.sealed_pages.specs.lemmas.Entries.{reads_start}
 use Rattle.sealed_pages.proofs.looking.ReadLemmas.{part_bytes, part_page}
 use Rattle.sealed_pages.specs.SlotNames.{opened_key}

@@ -5,9 +5,10 @@ use Rattle.sealed_pages.specs.Reading.{page_of}
 use Rattle.sealed_pages.specs.Slots.{slot_length, page_length}
 use Rattle.sealed_pages.specs.SealedPrefix.{pages_in, size_below}
 use Rattle.sealed_pages.specs.View.{page_at}
-use Rattle.sealed_pages.proofs.slots.SlotLemmas.{slot_length-le, page_apart}
+use Rattle.sealed_pages.specs.lemmas.looking.Looking.{content_length, page_length_is, part_slot, size_found, size_none, size_zero, unchanged_now, unchanged_start, unchanged_then}
+use Rattle.sealed_pages.specs.lemmas.slots.Slot.{page_apart, slot_length-le}
 use Rattle.sealed_pages.specs.lemmas.Entries.{only_read_start, only_read_then, only_read_of}
-use Rattle.sealed_pages.proofs.looking.Looking.{content_length, unchanged_start, size_upto, unchanged_now, unchanged_then, part_slot, page_below, page_length_is, size_found, size_none, size_zero}
+use Rattle.sealed_pages.proofs.looking.Looking.{size_upto, page_below}
 use Rattle.sealed_pages.proofs.cutting.Truncating.{no_value}
 use Rattle.sealed_pages.specs.SlotNames.{opened_key}
 use Rattle.sealed_pages.proofs.reading.find_last.Given as given

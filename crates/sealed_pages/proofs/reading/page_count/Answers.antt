@@ -1,10 +1,11 @@
 use Rattle.std.proofs.Common.{◌≡◌, ◌+◌, ◌-◌, ◌/◌, ◌^◌, inl, inr, ◌∙◌, sym, ℕ, length, ap, arith}
 use Rattle.std.proofs.lemmas.Bool.{cases_lt}
 use Rattle.sealed_pages.specs.Slots.{page_length}
-use Rattle.sealed_pages.proofs.looking.Looking.{no_places, places_count, fewer_places}
+use Rattle.sealed_pages.proofs.looking.Looking.{places_count, fewer_places}
 use Rattle.sealed_pages.proofs.looking.ReadLemmas.{page_in}
 use Rattle.sealed_pages.proofs.reading.page_count.Goals.{After-min}
 use Rattle.sealed_pages.proofs.reading.page_count.Goals as goal
+use Rattle.sealed_pages.specs.lemmas.looking.Looking.{no_places}
 
 -- how many pages have their places
 most : (c : After-min) → (2 ^ 64 - 1) / (c.from.result + 12) ≡ (2 ^ 64 - 1) / (c.args.page_size + 12)

@@ -1,7 +1,7 @@
 use Rattle.std.proofs.Common.{rules, ◌≡◌, ◌∙◌, length, drop, length-drop, arith}
 use Rattle.sealed_pages.specs.lemmas.Entries.{reads_once}
 use Rattle.blob_device.specs.Timeline.{disk}
-use Rattle.sealed_pages.proofs.looking.Looking.{content_length, unchanged_on}
+use Rattle.sealed_pages.specs.lemmas.looking.Looking.{content_length, unchanged_on}
 use Rattle.sealed_pages.proofs.looking.ReadLemmas.{prefix_of, span_take}
 use Rattle.sealed_pages.proofs.cutting.Truncating.{no_value}
 use Rattle.sealed_pages.specs.SlotNames.{opened_key}

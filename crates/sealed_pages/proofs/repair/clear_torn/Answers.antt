@@ -3,9 +3,10 @@ use Rattle.std.proofs.Common.{◌+◌, max, refl, arith, ◌∙◌, ◌≡◌, B
 use Rattle.sealed_pages.proofs.slots.PageCalls.{passes_as, no_ok, alone_start, alone_on}
 use Rattle.sealed_pages.specs.lemmas.Entries.{open_some, no_reads_part, no_reads_updated, open_written, no_reads_start}
 use Rattle.sealed_pages.proofs.adopted.Keeping.{kept_start, clear_any, clear_ok, clear_data}
-use Rattle.sealed_pages.proofs.Prefixes.{prefix_start, prefix_write}
+use Rattle.sealed_pages.proofs.Prefixes.{prefix_write}
 use Rattle.sealed_pages.specs.View.{page_at, slot_at}
-use Rattle.sealed_pages.proofs.slots.Steps.{slot_low}
+use Rattle.sealed_pages.specs.lemmas.Prefixes.{prefix_start}
+use Rattle.sealed_pages.specs.lemmas.slots.Steps.{slot_low}
 use Rattle.sealed_pages.proofs.adopted.Clearing.{slot_write}
 use Rattle.blob_device.specs.Timeline.{disk}
 use Rattle.blob_device.specs.Disk.{Blob}

@@ -3,7 +3,7 @@ use Rattle.std.proofs.Common.{arith, ◌∙◌, ◌≡◌, Bool, cond, ap, sym, 
 use Rattle.sealed_pages.proofs.slots.PageCalls.{no_ok, alone_start, alone_on}
 use Rattle.sealed_pages.specs.lemmas.Entries.{open_some, no_reads_resize, no_reads_updated, open_resized, no_reads_start}
 use Rattle.sealed_pages.proofs.adopted.Keeping.{kept_start, behind_any, behind_ok, resize_as, cut_data}
-use Rattle.sealed_pages.proofs.Prefixes.{prefix_start, prefix_resize}
+use Rattle.sealed_pages.proofs.Prefixes.{prefix_resize}
 use Rattle.sealed_pages.specs.View.{page_at}
 use Rattle.sealed_pages.proofs.adopted.Clearing.{slot_start, slot_resize}
 use Rattle.blob_device.specs.Timeline.{disk}
@@ -12,6 +12,7 @@ use Rattle.blob_device.specs.Change.{Resize, resized}
 use Rattle.blob_device.specs.lemmas.Moments.{ok_blob}
 use Rattle.sealed_pages.specs.SlotNames.{opened_key}
 use Rattle.sealed_pages.proofs.repair.cut_behind.Goals as goal
+use Rattle.sealed_pages.specs.lemmas.Prefixes.{prefix_start}
 
 pub resize-requires : goal.resize-requires
 resize-requires g c = open_some (g.D.Device.opened c.args.dev.now) (opened_key c.args.blob.now) c.args.blob.now.end c.requires.«open»

@@ -1,8 +1,8 @@
 use Rattle.std.proofs.Common.{inl, inr, true, false, arith}
 use Rattle.std.proofs.lemmas.Bool.{cases_lt}
 use Rattle.sealed_pages.specs.Slots.{slot_length}
-use Rattle.sealed_pages.proofs.looking.Looking.{page_length_is}
-use Rattle.sealed_pages.proofs.slots.SlotLemmas.{slot_length-le, slot_stands}
+use Rattle.sealed_pages.specs.lemmas.looking.Looking.{page_length_is}
+use Rattle.sealed_pages.specs.lemmas.slots.Slot.{slot_length-le, slot_stands}
 use Rattle.sealed_pages.proofs.slot.covered_len.Goals as goal
 
 pub returns-clause-covers : goal.returns-clause-covers

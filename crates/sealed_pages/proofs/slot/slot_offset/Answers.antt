@@ -1,7 +1,7 @@
 use Rattle.std.proofs.Common.{arith, ℕ, Bool, cond, ap}
 use Rattle.sealed_pages.specs.SlotNames.{is_b}
 use Rattle.sealed_pages.specs.declared.slot.Slot.{Slot}
-use Rattle.sealed_pages.proofs.looking.Looking.{page_zero}
+use Rattle.sealed_pages.specs.lemmas.looking.Looking.{page_zero}
 use Rattle.sealed_pages.proofs.slot.slot_offset.Goals as goal
 
 six_or : Bool → ℕ

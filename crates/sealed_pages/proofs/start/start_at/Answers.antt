@@ -4,7 +4,7 @@ use Rattle.sealed_pages.specs.SlotNames.{is_b}
 use Rattle.sealed_pages.specs.Starts.{Starts}
 use Rattle.sealed_pages.specs.View.{slot_at}
 use Rattle.sealed_pages.proofs.adopted.Starting.{starts_full, starts_part}
-use Rattle.sealed_pages.proofs.adopted.Adopting.{pages_some}
+use Rattle.sealed_pages.specs.lemmas.adopted.Adopting.{pages_some}
 use Rattle.sealed_pages.proofs.adopted.Leftovers.{leftover_full, leftover_part}
 use Rattle.sealed_pages.proofs.start.start_at.Goals as goal
 

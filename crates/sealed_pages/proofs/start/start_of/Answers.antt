@@ -1,9 +1,11 @@
 use Rattle.std.proofs.Common.{◌+◌, arith, false, refl, rules}
-use Rattle.sealed_pages.proofs.slots.SlotLemmas.{page_next, index_page}
+use Rattle.sealed_pages.proofs.slots.SlotLemmas.{index_page}
 use Rattle.sealed_pages.proofs.adopted.Adopting.{pages_place_order}
-use Rattle.sealed_pages.proofs.looking.Looking.{below_some, page_zero}
+use Rattle.sealed_pages.proofs.looking.Looking.{below_some}
 use Rattle.sealed_pages.proofs.adopted.Leftovers.{leftover_none}
 use Rattle.sealed_pages.proofs.start.start_of.Goals as goal
+use Rattle.sealed_pages.specs.lemmas.looking.Looking.{page_zero}
+use Rattle.sealed_pages.specs.lemmas.slots.Slot.{page_next}
 
 pub start_at-requires-clause-room : goal.start_at-requires-clause-room
 start_at-requires-clause-room g c =

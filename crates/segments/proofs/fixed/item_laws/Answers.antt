@@ -6,9 +6,9 @@ use Rattle.blob_device.specs.lemmas.Moments.{always_weaker}
 use Rattle.sealed_pages.specs.Buffer.{bytes_of}
 use Rattle.sealed_pages.specs.ChanceSeal.{Leaves}
 use Rattle.sealed_pages.specs.SealedPrefix.{sealed_prefix}
-use Rattle.sealed_pages.proofs.memory.Holding.{holds_leaves}
-use Rattle.sealed_pages.proofs.UnrecoveredLemmas.{prefix_leaves, unrecovered_prefix}
-use Rattle.section_manager.proofs.buffers.NothingSealed.{nothing_sealed}
+use Rattle.sealed_pages.specs.lemmas.Unrecovered.{prefix_leaves, unrecovered_prefix}
+use Rattle.sealed_pages.specs.lemmas.memory.Holding.{holds_leaves}
+use Rattle.section_manager.specs.lemmas.buffers.NothingSealed.{nothing_sealed}
 use Rattle.segments.proofs.fixed.item_laws.Goals as goal
 
 pub returns-clause-none : goal.returns-clause-none

@@ -6,11 +6,11 @@ use Rattle.blob_device.specs.lemmas.Moments.{always_now}
 use Rattle.sealed_pages.specs.Entries.{IsOpenAt}
 use Rattle.sealed_pages.specs.unsealed.Writing.{WriteBuffer, blob_key, Over}
 use Rattle.sealed_pages.specs.unsealed.Writing as writing
-use Rattle.sealed_pages.proofs.looking.Looking.{content_length}
+use Rattle.sealed_pages.specs.lemmas.looking.Looking.{content_length}
+use Rattle.section_manager.specs.lemmas.sections.Over.{over_put, same_key}
 use Rattle.section_manager.specs.Entries.{OnlyOwnEntry}
 use Rattle.section_manager.specs.managing.Managed.{shown}
 use Rattle.section_manager.specs.Sections.{key_of}
-use Rattle.section_manager.proofs.sections.OverLemmas.{same_key, over_put}
 use Rattle.segments_tests.proofs.managers.extended.Goals as goal
 
 pub returns-clause-over : goal.returns-clause-over

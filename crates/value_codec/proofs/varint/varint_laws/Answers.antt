@@ -1,6 +1,7 @@
 use Rattle.std.proofs.Common.{arith}
-use Rattle.value_codec.proofs.VarintPrefix.{prefix_gives}
-use Rattle.value_codec.proofs.VarintLemmas.{varint_spells, varint_only, varint_shortest, varint_apart, varint_at_most}
+use Rattle.value_codec.specs.lemmas.Varint.{varint_apart, varint_at_most, varint_only, varint_spells}
+use Rattle.value_codec.specs.lemmas.VarintPrefix.{prefix_gives}
+use Rattle.value_codec.proofs.VarintLemmas.{varint_shortest}
 use Rattle.value_codec.proofs.varint.varint_laws.Goals as goal
 
 pub returns-clause-spells : goal.returns-clause-spells

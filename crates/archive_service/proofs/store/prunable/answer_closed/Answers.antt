@@ -7,8 +7,9 @@ use Rattle.archives.specs.declared.commands.Reply.TheVariants.{Done}
 use Rattle.archive_service.specs.declared.store.openable.Openable.TheVariants.{Closed, Open}
 use Rattle.archive_service.proofs.OpenableLemmas.{closed_answers, not_so, one_of}
 use Rattle.archive_service.proofs.OpeningAnswers.{closed_reopens}
-use Rattle.archive_service.proofs.StoreLemmas.{answers_to, answers_with, seen_so}
+use Rattle.archive_service.proofs.StoreLemmas.{seen_so}
 use Rattle.archive_service.proofs.store.prunable.answer_closed.Goals as goal
+use Rattle.archive_service.specs.lemmas.Store.{answers_to, answers_with}
 
 -- it is opened
 pub returns-in-Reopen : goal.returns-in-Reopen

@@ -2,7 +2,7 @@ use Rattle.std.proofs.Common.{ap, sym}
 use Rattle.archives.specs.Finding.{get_command, has_command, wanted_of}
 use Rattle.archives.specs.Machine.{asked}
 use Rattle.archive_service.specs.declared.store.openable.Openable.TheVariants.{Open}
-use Rattle.archive_service.proofs.StoreLemmas.{answers_to}
+use Rattle.archive_service.specs.lemmas.Store.{answers_to}
 use Rattle.archive_service.proofs.store.prunable.carry_out.Goals as goal
 
 pub returns-in-Put : goal.returns-in-Put

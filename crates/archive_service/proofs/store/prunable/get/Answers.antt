@@ -4,8 +4,9 @@ use Rattle.archives.specs.Machine.{replied}
 use Rattle.archives.specs.declared.commands.Reply.TheVariants.{Value}
 use Rattle.archive_service.specs.declared.store.openable.Openable.TheVariants.{Open}
 use Rattle.archive_service.proofs.LookAnswers.{get_answers}
-use Rattle.archive_service.proofs.StoreLemmas.{answers_with, given_by, seen_so}
+use Rattle.archive_service.proofs.StoreLemmas.{given_by, seen_so}
 use Rattle.archive_service.proofs.store.prunable.get.Goals as goal
+use Rattle.archive_service.specs.lemmas.Store.{answers_with}
 
 pub returns : goal.returns
 returns g c =

@@ -4,8 +4,9 @@ use Rattle.archives.specs.Putting.{Once}
 use Rattle.archives.specs.declared.commands.Reply.TheVariants.{Done}
 use Rattle.archive_service.specs.declared.store.openable.Openable.TheVariants.{Open}
 use Rattle.archive_service.proofs.PutAnswers.{put_answers}
-use Rattle.archive_service.proofs.StoreLemmas.{answers_with, given_by, seen_so}
+use Rattle.archive_service.proofs.StoreLemmas.{given_by, seen_so}
 use Rattle.archive_service.proofs.store.prunable.put.Goals as goal
+use Rattle.archive_service.specs.lemmas.Store.{answers_with}
 
 pub returns : goal.returns
 returns g c =

@@ -14,7 +14,8 @@ use Rattle.paired.specs.Frames.{frame}
 use Rattle.paired.specs.glob.Sections as glob
 use Rattle.paired.specs.PairShown as pair
 use Rattle.paired.specs.Pair.{list_of, synced_length}
-use Rattle.paired.proofs.FrameLemmas.{length-frame}
+use Rattle.paired.specs.lemmas.Frame.{length-frame}
+use Rattle.paired.specs.lemmas.Glob.{section_counted}
 use Rattle.ordinal_store.specs.Ranges.{set_of}
 use Rattle.archives.specs.Archives.{IsSoundArchive, filing_of, state_of}
 use Rattle.archives.specs.IndexRecord.{index_record, place_of}
@@ -33,7 +34,6 @@ use Rattle.archives.specs.declared.error.Error.{Error}
 use Rattle.archives.specs.declared.error.Error.TheVariants.{Mem}
 use Rattle.archives.proofs.put.After.{not_here, rows_put, sizes_put, tails_same, written_put}
 use Rattle.archives.proofs.PutsLemmas.{failed_here, put_added, put_as, put_no_memory, put_over_limit, put_pair_failed, touches_here}
-use Rattle.paired.proofs.GlobLemmas.{section_counted}
 use Rattle.archives.proofs.put.Lemmas.{Adds, grown_archive}
 use Rattle.record_tables.specs.Tables as tables
 use Rattle.archives.proofs.TableLemmas.{room_shown, room_wider, row_allowed, row_pushed, rows_kept, tied_still}

@@ -1,13 +1,13 @@
 use Rattle.std.proofs.Common.{refl, arith, ◌≤◌}
 use Rattle.blob_device.specs.Timeline.{disk}
-use Rattle.segments.proofs.adding.WriteLemmas.{are_pages}
-use Rattle.paired.proofs.reconcile.Entries.{markers_readable}
+use Rattle.archives.specs.lemmas.Outlasts.{moving_after_said, moving_said, no_next_version}
+use Rattle.archives.specs.lemmas.Reopening.{none_beyond}
+use Rattle.paired.specs.lemmas.reconcile.Entries.{markers_readable}
+use Rattle.segments.specs.lemmas.adding.Write.{are_pages}
 use Rattle.archives.specs.Shown.{shown}
 use Rattle.archives.proofs.MachineTerms.{allowed, has_no_version_now, passed, passes}
 use Rattle.archives.proofs.OpenedAgain.{opened_again}
-use Rattle.archives.proofs.OutlastsLemmas.{moving_after_said, moving_said, no_next_version}
 use Rattle.archives.specs.PuttingLaws.{taken_state}
-use Rattle.archives.proofs.Reopening.{none_beyond}
 use Rattle.archives.proofs.sync.Lemmas.{stands_now}
 use Rattle.archives.proofs.prunable.Archive.crash_laws.Goals as goal
 

@@ -8,11 +8,11 @@ use Rattle.archives.proofs.DrainsLemmas.{drained, entry_is, not_entered, not_wal
 use Rattle.blob_device.specs.Timeline.{disk}
 use Rattle.value_codec.specs.Spelling.{size_refusal}
 use Rattle.section_manager.specs.contracts.sealed.PageBlobSectionBuffer.TheImpl as page_blob
-use Rattle.segments.proofs.adding.WriteLemmas.{are_pages}
+use Rattle.paired.specs.lemmas.next.Clauses.{Clauses}
+use Rattle.paired.specs.lemmas.next.Glue.{here_run}
+use Rattle.paired.specs.lemmas.pair.Synced.{page_setting}
+use Rattle.segments.specs.lemmas.adding.Write.{are_pages}
 use Rattle.paired.specs.ReplayShown.{run_of}
-use Rattle.paired.proofs.next.Answers.{Clauses}
-use Rattle.paired.proofs.next.Glue.{here_run}
-use Rattle.paired.proofs.pair.Synced.{page_setting}
 use Rattle.archives.specs.IndexRecord.{IsInRange, IsSpelled, place_of, spelling_of}
 use Rattle.archives.specs.IndexRecordLaws.{index_record_at_least}
 use Rattle.archives.specs.Raised.{raised}

@@ -6,7 +6,7 @@ use Rattle.segments.specs.FixedStepping.{way_of}
 use Rattle.segments.specs.FixedWalking.{walk_of}
 use Rattle.paired.specs.Replaying.{records_given}
 use Rattle.paired.specs.ReplayShown.{run_of}
-use Rattle.paired.proofs.pair.Synced.{page_setting}
+use Rattle.paired.specs.lemmas.pair.Synced.{page_setting}
 use Rattle.archives.specs.IndexRecord.{IsSpelled, place_of}
 use Rattle.archives.specs.Opening.{HasEntered}
 use Rattle.archives.specs.Rows.{AreTables, AreWithin, rows_of}

@@ -1,7 +1,7 @@
 use Rattle.std.proofs.Common.{ap, refl}
 use Rattle.std.specs.Prelude.{⊤}
 use Rattle.blob_device.specs.Timeline.{disk}
-use Rattle.sealed_pages.proofs.looking.Looking.{unchanged_now}
+use Rattle.sealed_pages.specs.lemmas.looking.Looking.{unchanged_now}
 use Rattle.record_tables.specs.Tables as tables
 use Rattle.archives.specs.Archives.{state_of}
 use Rattle.archives.specs.Finding as wanted

@@ -17,15 +17,15 @@ use Rattle.meta_store.specs.Store.{contents_of}
 use Rattle.paired.specs.Crashes.{HoldMarkers, IsOwn}
 use Rattle.sealed_pages.specs.declared.page_blob.PageBlob.{PageBlob}
 use Rattle.section_manager.specs.declared.sealed.AppendFactory.{AppendFactory}
-use Rattle.segments.proofs.adding.WriteLemmas.{are_pages}
+use Rattle.paired.specs.lemmas.pair.Reads.{leaves_now}
+use Rattle.paired.specs.lemmas.pair.Synced.{here_of}
+use Rattle.paired.specs.lemmas.reconcile.Entries.{drained_from, markers_readable, run_here}
+use Rattle.segments.specs.lemmas.adding.Write.{are_pages}
 use Rattle.paired.specs.Kept.{content_at, IsMarked, IsSameLayout, Markers}
 use Rattle.paired.specs.Opening.{IsLawful, MayBeOpened, OnlyOpens, RecallsAlone, as_read}
 use Rattle.paired.specs.OpeningFound.{HasFound}
 use Rattle.paired.specs.Pair.{AreApart, IsSoundOn, records_of}
 use Rattle.paired.specs.PairShown as pair
-use Rattle.paired.proofs.pair.Reads.{leaves_now}
-use Rattle.paired.proofs.pair.Synced.{here_of}
-use Rattle.paired.proofs.reconcile.Entries.{drained_from, markers_readable, run_here}
 use Rattle.paired.specs.OpeningRefusing.{IsLost}
 use Rattle.paired.specs.ReplayShown.{layout_for, run_of}
 use Rattle.ordinal_store.specs.Ranges.{set_of}

@@ -6,7 +6,7 @@ use Rattle.blob_device.specs.Timeline.{disk}
 use Rattle.blob_device.specs.lemmas.Moments.{always_now}
 use Rattle.value_codec.specs.declared.codec.Error as codec_error
 use Rattle.paired.specs.PairShown as pair
-use Rattle.paired.proofs.pair.Synced.{layout_as}
+use Rattle.paired.specs.lemmas.pair.Synced.{layout_as}
 use Rattle.ordinal_store.specs.Ranges.{set_of}
 use Rattle.archives.specs.Archives.{IsSoundArchive, filing_of}
 use Rattle.archives.specs.FilingLaws.{one_filing}

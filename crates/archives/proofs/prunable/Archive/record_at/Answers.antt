@@ -1,9 +1,9 @@
 use Rattle.std.proofs.Common.{inl, inr, ap, Err}
 use Rattle.blob_device.specs.Timeline.{disk}
-use Rattle.sealed_pages.proofs.looking.Looking.{unchanged_now}
+use Rattle.paired.specs.lemmas.pair.Reads.{may_read}
+use Rattle.sealed_pages.specs.lemmas.looking.Looking.{unchanged_now}
 use Rattle.section_manager.specs.Refusing as segments
 use Rattle.section_manager.specs.Sections.{section_key}
-use Rattle.paired.proofs.pair.Reads.{may_read}
 use Rattle.archives.specs.Raised.{raised}
 use Rattle.archives.specs.Shown.{shown}
 use Rattle.archives.specs.declared.prunable.index_record.IndexRecord.{IndexRecord}

@@ -1,5 +1,5 @@
 use Rattle.blob_device.specs.Timeline.{disk}
-use Rattle.paired.proofs.opening.Laws.{nothing_pending}
+use Rattle.paired.specs.lemmas.opening.Laws.{nothing_pending}
 use Rattle.archives.specs.Shown.{filing_for}
 use Rattle.archives.proofs.Reopening.{start_leaves}
 use Rattle.archives.proofs.prunable.Archive.start_laws.Goals as goal

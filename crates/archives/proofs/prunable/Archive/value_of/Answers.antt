@@ -1,6 +1,6 @@
 use Rattle.std.proofs.Common.{◌≡◌, refl, ℕ, slice_get, IsSomeAnd, Result, Err}
 use Rattle.blob_device.specs.Timeline.{disk}
-use Rattle.sealed_pages.proofs.looking.Looking.{unchanged_now}
+use Rattle.sealed_pages.specs.lemmas.looking.Looking.{unchanged_now}
 use Rattle.section_manager.specs.Sections.{section_key}
 use Rattle.paired.specs.Pair.{list_of}
 use Rattle.archives.specs.IndexRecord.{IsInRange, spelling_of}

@@ -7,7 +7,7 @@ use Rattle.value_codec.specs.declared.codec.Error as codec_error
 use Rattle.paired.specs.PairShown as pair
 use Rattle.paired.specs.Kept.{content_at}
 use Rattle.paired.specs.Opening.{as_read}
-use Rattle.paired.proofs.pair.Synced.{layout_as}
+use Rattle.paired.specs.lemmas.pair.Synced.{layout_as}
 use Rattle.archives.specs.Archives.{filing_of}
 use Rattle.archives.specs.FilingLaws.{one_filing}
 use Rattle.archives.specs.IndexRecord.{place_of}

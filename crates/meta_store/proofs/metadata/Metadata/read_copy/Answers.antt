@@ -2,7 +2,7 @@ use Rattle.std.proofs.Common.{Option, Ok, subst}
 use Rattle.meta_store.specs.declared.copy.Contents.{Contents}
 use Rattle.meta_store.specs.Copies.{ReadsText}
 use Rattle.meta_store.specs.Format.{format_of}
-use Rattle.meta_store.proofs.Readings.{reads_absent, reads_refused, reads_whole}
+use Rattle.meta_store.specs.lemmas.Readings.{reads_absent, reads_refused, reads_whole}
 use Rattle.meta_store.proofs.metadata.Metadata.read_copy.Goals as goal
 
 pub returns-in_default : goal.returns-in_default

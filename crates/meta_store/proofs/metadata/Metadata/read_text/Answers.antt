@@ -1,7 +1,7 @@
 use Rattle.std.proofs.Common.{◌-◌, ℕ, List, Option, IfSome, length, take, drop, subst, arith}
 use Rattle.meta_store.specs.Copies.{IsEntries}
 use Rattle.meta_store.specs.Format.{format_of}
-use Rattle.meta_store.proofs.Readings.{text_formless, text_given, text_refused, text_short}
+use Rattle.meta_store.specs.lemmas.Readings.{text_formless, text_given, text_refused, text_short}
 use Rattle.meta_store.proofs.metadata.Metadata.read_text.Goals as goal
 
 pub returns-in_default : goal.returns-in_default

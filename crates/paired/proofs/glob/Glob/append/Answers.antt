@@ -19,16 +19,15 @@ use Rattle.paired.specs.glob.Lasting.{Outlasts, settled_bytes}
 use Rattle.sealed_pages.specs.declared.write_blob.WriteBlob.{WriteBlob}
 use Rattle.section_manager.specs.Setting.{Setting}
 use Rattle.section_manager.specs.lemmas.Keys.{keys_differ}
-use Rattle.section_manager.proofs.sections.LentLemmas.{lent_back}
-use Rattle.section_manager.proofs.sections.OverLemmas.{same_key}
-use Rattle.paired.proofs.GlobLemmas.{buffers, Serves, serves_of, glob_one, same_bytes, held_bytes, no_bytes, section_counted}
-use Rattle.section_manager.proofs.sections.EntryLemmas.{starts_none}
-use Rattle.section_manager.proofs.sections.TruncateLemmas.{unread_then}
+use Rattle.paired.specs.lemmas.Frame.{length-frame, stands as frame_stands}
+use Rattle.paired.specs.lemmas.Glob.{Serves, buffers, glob_one, held_bytes, no_bytes, same_bytes, section_counted, serves_of}
+use Rattle.section_manager.specs.lemmas.sections.Entry.{starts_none}
+use Rattle.section_manager.specs.lemmas.sections.Lent.{lent_back}
+use Rattle.section_manager.specs.lemmas.sections.Over.{same_key}
+use Rattle.section_manager.specs.lemmas.sections.Truncate.{unread_then}
 use Rattle.paired.specs.Frames.{frame, HasFrame}
 use Rattle.paired.specs.glob.Sections.{section_bytes, section_size, pending_size, pending_held, settled_held, HadPrefixes, TakesMore}
 use Rattle.paired.proofs.AppendLemmas.{stays_below, full_held, end_size, some_size, match_err, never_full, why_of, same_error, mapped_ok, ok_at, open_long, taken_size, taken_bytes, appended_takes, appended_whole, still_moments, begin_moments, begun_moments, append_prefixes, append_moments, taken_serves, held_moments}
-use Rattle.paired.proofs.FrameLemmas.{length-frame}
-use Rattle.paired.proofs.FrameLemmas.{stands as frame_stands}
 use Rattle.std.proofs.lemmas.Bool.{cases_lt}
 use Rattle.paired.proofs.CallLemmas.{held_some}
 use Rattle.sealed_pages.specs.Tails.{LeavesPending}

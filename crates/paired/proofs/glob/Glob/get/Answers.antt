@@ -2,14 +2,14 @@ use Rattle.std.proofs.Common.{◌≡◌, ℕ, List, length, Some, None, inl, inr
 use Rattle.blob_device.specs.Timeline.{disk}
 use Rattle.blob_device.specs.Disk.{Key}
 use Rattle.sealed_pages.specs.Entries.{ReadsAtMost}
-use Rattle.sealed_pages.proofs.looking.Looking.{unchanged_now}
+use Rattle.paired.specs.lemmas.Frame.{length-frame, not_broken}
+use Rattle.paired.specs.lemmas.Glob.{glob_read}
+use Rattle.sealed_pages.specs.lemmas.looking.Looking.{unchanged_now}
 use Rattle.section_manager.specs.managing.Managed.{shown}
 use Rattle.section_manager.specs.Raised.{raised_codec}
 use Rattle.paired.specs.Frames.{HasFrame}
 use Rattle.paired.specs.glob.Sections.{section_bytes}
 use Rattle.paired.proofs.FailLemmas.{failed_as, codec_mismatch, codec_refusal, codec_memory, decoded_as, decoded_error}
-use Rattle.paired.proofs.FrameLemmas.{length-frame, not_broken}
-use Rattle.paired.proofs.GlobLemmas.{glob_read}
 use Rattle.paired.proofs.ReadLemmas.{broken_at, differ_so, frame_at, same_prefix, no_frame, none_below, own_key, as_long, bytes_read, frame_inside}
 use Rattle.paired.proofs.glob.Glob.get.Goals as goal
 use Rattle.blob_device.proofs.general.Results.{err_of}

@@ -3,7 +3,7 @@ use Rattle.std.specs.Prelude.{IsSome}
 use Rattle.blob_device.specs.Timeline.{disk}
 use Rattle.blob_device.specs.lemmas.Moments.{always_now}
 use Rattle.section_manager.specs.managing.Managed.{shown}
-use Rattle.paired.proofs.GlobLemmas.{glob_one, other_bytes}
+use Rattle.paired.specs.lemmas.Glob.{glob_one, other_bytes}
 use Rattle.paired.proofs.glob.Glob.remove_section.Goals as goal
 
 pub returns-clause-over : goal.returns-clause-over

@@ -3,7 +3,7 @@ use Rattle.std.specs.Prelude.{⊤}
 use Rattle.blob_device.specs.Timeline.{disk}
 use Rattle.blob_device.specs.lemmas.Moments.{always_now}
 use Rattle.section_manager.specs.managing.Managed.{shown}
-use Rattle.segments.proofs.held.Passing.{failed_on}
+use Rattle.segments.specs.lemmas.held.Passing.{failed_on}
 use Rattle.paired.proofs.CallLemmas.{sync_glob, sync_bytes, sync_settled, sync_all}
 use Rattle.paired.proofs.StepLemmas.{settling_moments, same_unopened, none_unsettled}
 use Rattle.paired.proofs.glob.Glob.sync_all.Goals as goal

@@ -3,7 +3,7 @@ use Rattle.blob_device.specs.Timeline.{disk}
 use Rattle.section_manager.specs.managing.Managed as managed
 use Rattle.segments.specs.FixedLists.{section_bytes}
 use Rattle.segments.specs.FixedShown as fixed
-use Rattle.segments.proofs.adding.WriteLemmas.{are_pages}
+use Rattle.segments.specs.lemmas.adding.Write.{are_pages}
 use Rattle.paired.specs.Frames.{frame}
 use Rattle.paired.specs.glob.Sections as glob
 use Rattle.paired.specs.PairShown.{shown}

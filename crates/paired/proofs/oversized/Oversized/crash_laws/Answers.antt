@@ -1,7 +1,7 @@
 use Rattle.std.proofs.Common.{refl}
 use Rattle.blob_device.specs.Timeline.{disk}
 use Rattle.paired.specs.PairShown.{shown}
-use Rattle.paired.proofs.pair.Reads.{leaves_now}
+use Rattle.paired.specs.lemmas.pair.Reads.{leaves_now}
 use Rattle.paired.proofs.oversized.Oversized.crash_laws.Goals as goal
 
 pub returns : goal.returns

@@ -7,7 +7,7 @@ use Rattle.meta_store.specs.Store.{contents_of}
 use Rattle.section_manager.specs.Sections.{IsHeld, IsKnown}
 use Rattle.section_manager.specs.Setting.{Setting}
 use Rattle.paired.specs.PairShown.{shown}
-use Rattle.paired.proofs.GlobLemmas.{glob_stays}
+use Rattle.paired.specs.lemmas.Glob.{glob_stays}
 use Rattle.paired.proofs.pair.Facts.{copies_gone}
 use Rattle.paired.proofs.pair.Stays.{journal_stays}
 use Rattle.paired.proofs.pair.Removing.{ascending, values_ascending, destroy_one, copies_go, copies_removed, copies_last, sections_wait, markers_gone, records_gone, values_gone, only_copies_go, none_leave, parts_of, destroy_ways, known_held, markers_first, records_first, index_first, index_last, values_first, own_entries, index_opened, values_opened, keeps_markers, keeps_records, keeps_values}

@@ -1,13 +1,14 @@
 use Rattle.std.proofs.Common.{◌≡◌, ◌+◌, ◌/◌, inl, inr, false, ap, arith}
 use Rattle.blob_device.specs.Timeline.{disk}
-use Rattle.sealed_pages.proofs.looking.Looking.{unchanged_now}
+use Rattle.paired.specs.lemmas.pair.Facts.{proven_of}
+use Rattle.paired.specs.lemmas.pair.Reads.{held_by, in_list, listed_answer, may_read}
+use Rattle.sealed_pages.specs.lemmas.looking.Looking.{unchanged_now}
 use Rattle.section_manager.specs.Sections.{key_of}
 use Rattle.segments.specs.FixedItems.{item_at}
 use Rattle.segments.specs.FixedLists as fixed
 use Rattle.segments.specs.FixedReading.{is_item_held}
 use Rattle.paired.specs.PairShown.{shown}
-use Rattle.paired.proofs.pair.Reads.{listed_answer, in_list, held_by, from_floor, not_held, no_item, answered_inside, past_held, undamaged, gives_record, may_read, pair_read}
-use Rattle.paired.proofs.pair.Facts.{proven_of}
+use Rattle.paired.proofs.pair.Reads.{from_floor, not_held, no_item, answered_inside, past_held, undamaged, gives_record, pair_read}
 use Rattle.paired.proofs.oversized.Oversized.get.Goals as goal
 
 pub returns-clause-inside : goal.returns-clause-inside

@@ -1,9 +1,10 @@
 use Rattle.std.proofs.Common.{arith}
 use Rattle.blob_device.specs.Timeline.{disk}
-use Rattle.sealed_pages.proofs.looking.Looking.{unchanged_now}
+use Rattle.paired.specs.lemmas.pair.Reads.{frame_held, frame_not_beyond, frame_not_short, held_by, sound_entry}
+use Rattle.sealed_pages.specs.lemmas.looking.Looking.{unchanged_now}
 use Rattle.paired.specs.glob.Sections as glob
 use Rattle.paired.specs.PairShown.{shown}
-use Rattle.paired.proofs.pair.Reads.{held_by, from_floor, sound_entry, frame_held, frame_not_beyond, frame_not_short, gives_value, pair_read}
+use Rattle.paired.proofs.pair.Reads.{from_floor, gives_value, pair_read}
 use Rattle.paired.proofs.oversized.Oversized.get_value.Goals as goal
 
 pub returns-clause-over : goal.returns-clause-over

@@ -37,14 +37,14 @@ use Rattle.paired.specs.sighted.Shown as tracking
 use Rattle.paired.proofs.BoundaryLemmas.{opened_size}
 use Rattle.paired.proofs.CallLemmas.{held_some}
 use Rattle.paired.proofs.OpenParts.{named_key}
-use Rattle.paired.proofs.opening.Start.{lawful_alike, read_alike, stored_alike}
+use Rattle.meta_store.specs.lemmas.Reopening.{IsPromised}
+use Rattle.paired.specs.lemmas.opening.Start.{lawful_alike, read_alike, stored_alike}
+use Rattle.paired.specs.lemmas.pair.Synced.{layout_as}
 use Rattle.paired.proofs.opening.StartCauses.{PartsRefuse, StopsEarly, corrupt_back, corrupt_on, early_cause, early_has_cause, error_back, markers_gave_up, markers_refuse, memory_raised, never, never_cause, no_corruption, no_refusal, parts_cause, parts_corrupt, parts_give_up, parts_refuse}
-use Rattle.meta_store.proofs.Reopening.{IsPromised}
 use Rattle.paired.proofs.opening.StartFound.{PartsOpened, at_ok, by_ok, found_of, glob_as, opening_run, parts_as}
 use Rattle.paired.proofs.opening.StartMoments.{always_recalls, both_open, copies_stay, copy_entries, first_opens, index_apart, index_stays, lawful_named, named_after, named_before, opened_over, opens_content, own_entries, stands_over, stays_open, value_entry, values_apart, values_stay}
 use Rattle.paired.proofs.opening.StartRefusals.{no_loss, no_unreadable}
 use Rattle.paired.proofs.opening.StartRun.{ends_as, lost_as, unreadable_as}
-use Rattle.paired.proofs.pair.Synced.{layout_as}
 use Rattle.paired.proofs.oversized.Oversized.init_with_metadata.Goals as goal
 use Rattle.blob_device.proofs.general.Results.{err_of, err_with, ok_with, on_err}
 

@@ -2,11 +2,12 @@ use Rattle.std.proofs.Common.{◌≡◌, ◌+◌, ◌-◌, ◌/◌, inl, inr, fa
 use Rattle.blob_device.specs.Timeline.{disk}
 use Rattle.sealed_pages.specs.Buffer.{size_of}
 use Rattle.sealed_pages.specs.Shown as page_blob
-use Rattle.sealed_pages.proofs.looking.Looking.{unchanged_now}
+use Rattle.paired.specs.lemmas.pair.Reads.{listed_last, may_read}
+use Rattle.sealed_pages.specs.lemmas.looking.Looking.{unchanged_now}
 use Rattle.section_manager.specs.Sections.{key_of}
 use Rattle.segments.specs.FixedReading.{is_item_held}
 use Rattle.paired.specs.PairShown.{shown}
-use Rattle.paired.proofs.pair.Reads.{listed_last, damaged_last, no_item, may_read, pair_read}
+use Rattle.paired.proofs.pair.Reads.{damaged_last, no_item, pair_read}
 use Rattle.paired.proofs.oversized.Oversized.last.Goals as goal
 
 pub returns-clause-record : goal.returns-clause-record

@@ -5,14 +5,15 @@ use Rattle.blob_device.specs.Disk.{Key}
 use Rattle.blob_device.specs.Timeline.{disk}
 use Rattle.section_manager.specs.Raised.{raised_metadata}
 use Rattle.blob_device.specs.lemmas.Moments.{always_now, always_start, always_weaker}
-use Rattle.segments.proofs.adding.WriteLemmas.{are_pages}
+use Rattle.meta_store.specs.lemmas.Sides.{sides_apart}
+use Rattle.meta_store.specs.lemmas.Syncing.{stands_alone}
+use Rattle.paired.specs.lemmas.pair.Synced.{here_of}
+use Rattle.segments.specs.lemmas.adding.Write.{are_pages}
 use Rattle.meta_store.specs.Blobs.{blob_of, other_side, OnlyOne}
 use Rattle.meta_store.specs.Calls.{IsOpened}
 use Rattle.meta_store.specs.Crashes as metadata
 use Rattle.meta_store.specs.declared.error.Side.TheVariants.{Left, Right}
 use Rattle.meta_store.specs.Store.{Stands, MayBeSynced, contents_of}
-use Rattle.meta_store.proofs.Sides.{sides_apart}
-use Rattle.meta_store.proofs.SyncingLemmas.{stands_alone}
 use Rattle.paired.specs.Crashes.{IsCopy}
 use Rattle.paired.specs.PairShown.{shown}
 use Rattle.paired.specs.sighted.Shown as tracked
@@ -20,7 +21,6 @@ use Rattle.paired.proofs.pair.Marked.{Moved, moved_on, moved_marked, marked_sync
 use Rattle.paired.proofs.pair.Settling.{parts_of}
 use Rattle.paired.proofs.pair.FaultLemmas.{markers_apart}
 use Rattle.paired.proofs.pair.Failing.{full_markers, false_true, no_error, not_both}
-use Rattle.paired.proofs.pair.Synced.{here_of}
 use Rattle.paired.proofs.oversized.Oversized.move_markers.Goals as goal
 use Rattle.blob_device.proofs.general.Lists.{contains_or_not}
 use Rattle.blob_device.proofs.general.Results.{err_of}

@@ -26,11 +26,12 @@ use Rattle.paired.specs.ReplayShown.{layout_for}
 use Rattle.paired.proofs.BoundaryLemmas.{boundary_as, cut_off, ends_within, opened_size}
 use Rattle.paired.proofs.opening.Lemmas.{both_first, both_second, both_still, settling_of, settling_others, values_first}
 use Rattle.paired.proofs.opening.StartCauses.{error_back, parts_refuse}
-use Rattle.paired.proofs.OpenParts.{floor_given, foreign_as, given, held_before, keys_apart, named_key, named_no_codec, named_no_damage, named_refuse, only_damage, refused_lost, unknown, unreadable_found}
+use Rattle.paired.proofs.OpenParts.{floor_given, foreign_as, given, held_before, named_key, named_no_codec, named_no_damage, named_refuse, only_damage, refused_lost, unknown, unreadable_found}
 use Rattle.paired.proofs.pair.Sections.{glob_kept}
 use Rattle.paired.proofs.pair.Stays.{journal_stays}
 use Rattle.paired.proofs.oversized.Oversized.open_parts.Goals as goal
 use Rattle.blob_device.proofs.general.Results.{err_of, err_with}
+use Rattle.paired.specs.lemmas.OpenParts.{keys_apart}
 
 pub returns-clause-index : goal.returns-clause-index
 returns-clause-index g c =

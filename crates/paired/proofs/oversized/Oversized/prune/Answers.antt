@@ -20,7 +20,7 @@ use Rattle.paired.specs.Kept.{MarkerMap, IsMarked, marker_of}
 use Rattle.paired.specs.Pair.{Pair, IsSoundOn, list_of}
 use Rattle.paired.specs.PairShown.{shown}
 use Rattle.paired.specs.sighted.Shown as tracked
-use Rattle.paired.proofs.GlobLemmas.{glob_stays}
+use Rattle.paired.specs.lemmas.Glob.{glob_stays}
 use Rattle.paired.proofs.pair.FaultLemmas.{markers_apart, dropped_still}
 use Rattle.paired.proofs.pair.FullMarkers.{full_markers}
 use Rattle.paired.proofs.pair.Stays.{journal_stays}

@@ -5,16 +5,17 @@ use Rattle.blob_device.specs.Timeline.{disk}
 use Rattle.section_manager.specs.managing.Managed as manager
 use Rattle.segments.specs.FixedLists.{section_size}
 use Rattle.segments.specs.FixedShown as fixed
-use Rattle.segments.proofs.adding.WriteLemmas.{are_pages}
+use Rattle.paired.specs.lemmas.pair.Synced.{here_of}
+use Rattle.segments.specs.lemmas.adding.Write.{are_pages}
+use Rattle.segments.specs.lemmas.held.Passing.{pruned_on}
 use Rattle.paired.specs.Kept.{marker_of}
 use Rattle.paired.specs.PairShown.{shown}
 use Rattle.paired.specs.sighted.Shown as tracked
 use Rattle.paired.proofs.pair.FaultLemmas.{rests_after}
 use Rattle.paired.proofs.pair.Failing.{no_error, pruned_ok, values_refused, values_failed}
 use Rattle.paired.proofs.pair.Settling.{index_entry, values_entry, index_synced_of, values_synced_of, parts_of, settle_index_alone, settle_index_untouched, settle_index_order, settle_index_keeps, settle_alone, settle_untouched, settle_order, settle_keeps}
-use Rattle.paired.proofs.pair.Synced.{here_of, values_ready, settled_as, settled_sound_as, lists_same, lengths_same, held_same, values_held_as, values_same_size, named_synced, others_synced}
+use Rattle.paired.proofs.pair.Synced.{values_ready, settled_as, settled_sound_as, lists_same, lengths_same, held_same, values_held_as, values_same_size, named_synced, others_synced}
 use Rattle.paired.proofs.tracking.Lemmas.{Noted}
-use Rattle.segments.proofs.held.Passing.{pruned_on}
 use Rattle.paired.proofs.pair.Passing.{no_value}
 use Rattle.paired.proofs.pair.Pruned.{pruned_as}
 use Rattle.paired.proofs.oversized.Oversized.settle.Goals as goal

@@ -6,7 +6,8 @@ use Rattle.blob_device.specs.Disk.{Key}
 use Rattle.blob_device.specs.Timeline.{disk}
 use Rattle.blob_device.specs.lemmas.Moments.{always_weaker}
 use Rattle.section_manager.specs.Sections.{IsHeld}
-use Rattle.segments.proofs.adding.WriteLemmas.{are_pages}
+use Rattle.paired.specs.lemmas.pair.Synced.{here_of}
+use Rattle.segments.specs.lemmas.adding.Write.{are_pages}
 use Rattle.paired.specs.Crashes.{IsBlobOf, IsCopy, IsIndexOf, IsValuesOf}
 use Rattle.paired.specs.Pair.{list_of, synced_length}
 use Rattle.paired.specs.PairShown.{shown}
@@ -14,7 +15,7 @@ use Rattle.paired.proofs.pair.FaultLemmas.{before_them, before_markers}
 use Rattle.paired.proofs.pair.Failing.{only_failed}
 use Rattle.paired.proofs.pair.Marked.{if_both, lists_keep}
 use Rattle.paired.proofs.pair.Settling.{all_in_order, any_blob, blob_within, copy_no_blob, keeping_wider, parts_of}
-use Rattle.paired.proofs.pair.Synced.{here_of, unheld_synced}
+use Rattle.paired.proofs.pair.Synced.{unheld_synced}
 use Rattle.paired.proofs.oversized.Oversized.sync_all.Goals as goal
 use Rattle.blob_device.proofs.general.Lists.{contains_or_not}
 use Rattle.blob_device.proofs.general.Results.{map_ok}

@@ -17,7 +17,7 @@ use Rattle.paired.proofs.pair.Failing.{pruned_ok, not_pruned, lost_since, marker
 use Rattle.paired.proofs.pair.Settling.{copy_no_blob, own_blob, in_order, in_order_then, keeping_wider}
 use Rattle.paired.proofs.pair.Moments.{keeping_then}
 use Rattle.paired.proofs.pair.Pruned.{pruned_as}
-use Rattle.paired.proofs.pair.Synced.{layout_as}
+use Rattle.paired.specs.lemmas.pair.Synced.{layout_as}
 use Rattle.paired.proofs.pair.Syncing.{sync_of}
 use Rattle.paired.proofs.pair.Passing.{no_value, settled_cause, settled_full, settled_lost}
 use Rattle.paired.proofs.oversized.Oversized.sync_tracked.Goals as goal

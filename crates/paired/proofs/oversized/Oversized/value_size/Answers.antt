@@ -3,7 +3,8 @@ use Rattle.blob_device.specs.Timeline.{disk}
 use Rattle.blob_device.specs.declared.runtime.RError.TheVariants.{InvalidChecksum}
 use Rattle.sealed_pages.specs.Buffer.{size_of}
 use Rattle.sealed_pages.specs.Shown as page_blob
-use Rattle.sealed_pages.proofs.looking.Looking.{unchanged_start, unchanged_now}
+use Rattle.paired.specs.lemmas.pair.Reads.{last_place, may_read, no_length, place_of, sound_empty, sound_end}
+use Rattle.sealed_pages.specs.lemmas.looking.Looking.{unchanged_now, unchanged_start}
 use Rattle.section_manager.specs.declared.journal.Error.TheVariants.{AlreadyPrunedToSection, Runtime, Codec, OffsetOverflow}
 use Rattle.section_manager.specs.declared.journal.Error.{Error}
 use Rattle.segments.specs.FixedReading.{is_item_held, IsAbsent}
@@ -13,7 +14,7 @@ use Rattle.segments.specs.lemmas.FixedErrors.{of_error}
 use Rattle.paired.specs.glob.Sections as glob
 use Rattle.paired.specs.Pair.{list_of, length_of}
 use Rattle.paired.specs.PairShown.{shown}
-use Rattle.paired.proofs.pair.Reads.{no_length, last_place, place_of, sound_end, sound_empty, has_last, sum_answered, sum_refused, damaged_last, no_item, may_read, pair_read}
+use Rattle.paired.proofs.pair.Reads.{has_last, sum_answered, sum_refused, damaged_last, no_item, pair_read}
 use Rattle.paired.proofs.pair.Failing.{no_error}
 use Rattle.paired.proofs.pair.Passing.{no_value, pruned_cause, pruned_else, last_cause, last_overflow, sum_error, sum_cause, reads_still, not_empty}
 use Rattle.paired.proofs.pair.Pruned.{pruned_as}

@@ -3,7 +3,7 @@ use Rattle.std.specs.BTreeMap.{get}
 use Rattle.std.specs.Ordering.{nat_cmp}
 use Rattle.blob_device.specs.lemmas.Moments.{always_now}
 use Rattle.blob_device.specs.Timeline.{disk, Each}
-use Rattle.sealed_pages.proofs.looking.Looking.{unchanged_start}
+use Rattle.sealed_pages.specs.lemmas.looking.Looking.{unchanged_start}
 use Rattle.section_manager.specs.declared.journal.Error.TheVariants.{Mem}
 use Rattle.section_manager.specs.managing.Managed.{shown}
 use Rattle.section_manager.specs.Sections.{key_of}

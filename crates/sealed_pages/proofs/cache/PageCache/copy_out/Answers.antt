@@ -3,7 +3,7 @@ use borrow.Rule.Slice.PartMut.{put_mid}
 use Rattle.std.proofs.Math.Nat.{le-mul_of_pos_right}
 use Rattle.sealed_pages.specs.SealedPrefix.{place}
 use Rattle.sealed_pages.specs.View.{view}
-use Rattle.sealed_pages.proofs.adopted.Adopt.{place_in}
+use Rattle.sealed_pages.specs.lemmas.adopted.Adopt.{place_in}
 use Rattle.sealed_pages.proofs.looking.ReadLemmas.{filled, step_next}
 use Rattle.sealed_pages.proofs.cache.PageCache.copy_out.Goals as goal
 

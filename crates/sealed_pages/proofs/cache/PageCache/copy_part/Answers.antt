@@ -1,7 +1,8 @@
 use Rattle.std.proofs.Common.{◌≡◌, ◌+◌, ◌-◌, ◌∙◌, length, get_or, take, drop, ap, sym, arith}
-use Rattle.sealed_pages.proofs.memory.CacheLemmas.{found_some, found_bytes, found_has}
+use Rattle.sealed_pages.proofs.memory.CacheLemmas.{found_some, found_bytes}
 use Rattle.sealed_pages.specs.Cached.{held_in}
 use Rattle.sealed_pages.proofs.cache.PageCache.copy_part.Goals as goal
+use Rattle.sealed_pages.specs.lemmas.memory.Cache.{found_has}
 
 pub slice_bounds-copy_from_slice-end : goal.slice_bounds-copy_from_slice-end
 slice_bounds-copy_from_slice-end c = omega (arith, c.requires.part, found_has (λ e. length e.1 ≡ c.args.page_size) c.args.page c.in-Some.bytes.now (held_in c.args.self.now) c.requires.whole (sym c.in-Some.ensures))

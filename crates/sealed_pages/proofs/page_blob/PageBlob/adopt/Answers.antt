@@ -5,19 +5,20 @@ use Rattle.blob_device.specs.Disk.{Key, Blob, settled_at}
 use Rattle.blob_device.specs.Timeline.{disk}
 use Rattle.sealed_pages.specs.Buffer.{extent, Buffer, bytes_of, State, IsSealed, IsBacked, HasFlushed}
 use Rattle.sealed_pages.specs.Entries.{IsOpenAt}
-use Rattle.sealed_pages.proofs.looking.Looking.{content_length}
+use Rattle.sealed_pages.specs.lemmas.Reaching.{prefix_size}
+use Rattle.sealed_pages.specs.lemmas.looking.Looking.{content_length}
+use Rattle.sealed_pages.specs.lemmas.memory.Holding.{bytes_length}
 use Rattle.std.proofs.lemmas.List.{with_items_is}
 use Rattle.sealed_pages.specs.Found.{Finds}
 use Rattle.sealed_pages.proofs.adopted.Starting.{backed_of, size_is, adopted_is, tip_is, starts_tip, extent_pages, start_fits}
 use Rattle.sealed_pages.proofs.adopted.Adopting.{adopted_state}
 use Rattle.sealed_pages.specs.Cached.{held_in}
 use Rattle.sealed_pages.proofs.memory.MemoryLemmas.{none_cached, none_full}
-use Rattle.sealed_pages.proofs.memory.Holding.{tip_stands, bytes_length}
+use Rattle.sealed_pages.proofs.memory.Holding.{tip_stands}
 use Rattle.sealed_pages.proofs.UnrecoveredLemmas.{adopted_unrecovered}
 use Rattle.sealed_pages.specs.Unrecovered.{IsUnrecovered}
 use Rattle.std.proofs.lemmas.Bool.{cases_lt}
 use Rattle.sealed_pages.specs.SealedPrefix.{sealed_prefix, adopted_size}
-use Rattle.sealed_pages.proofs.Reaching.{prefix_size}
 use Rattle.sealed_pages.specs.SlotNames.{is_b}
 use Rattle.sealed_pages.specs.Shown.{shown}
 use Rattle.sealed_pages.proofs.AdoptEnds.{adopt_failed}

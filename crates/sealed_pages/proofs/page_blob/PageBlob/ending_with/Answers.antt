@@ -1,5 +1,5 @@
 use Rattle.std.proofs.Common.{◌≡◌, ◌+◌, ◌*◌, ◌<◌, ◌^◌, ℕ, length, ap, arith, rules}
-use Rattle.sealed_pages.proofs.memory.Holding.{extent_more}
+use Rattle.sealed_pages.specs.lemmas.memory.Holding.{extent_more}
 use Rattle.sealed_pages.proofs.page_blob.PageBlob.ending_with.Goals as goal
 
 pub overflow_mul-result : goal.overflow_mul-result

@@ -1,5 +1,5 @@
 use Rattle.std.proofs.Common.{◌*◌, ℕ, ap, arith}
-use Rattle.sealed_pages.proofs.memory.Holding.{fit_size}
+use Rattle.sealed_pages.specs.lemmas.memory.Holding.{fit_size}
 use Rattle.sealed_pages.proofs.page_blob.PageBlob.flushed.Goals as goal
 
 pub overflow_mul-result : goal.overflow_mul-result

@@ -1,8 +1,9 @@
 use Rattle.std.proofs.Common.{rules, ◌≡◌, ◌+◌, ◌-◌, ◌/◌, ◌<◌, ◌^◌, ℕ, ap, refl, arith}
 use Rattle.std.proofs.Math.Nat.{div-mul-le_self}
-use Rattle.sealed_pages.proofs.memory.Holding.{fit_size}
-use Rattle.sealed_pages.proofs.memory.HeldLemmas.{wanted_low, wanted_high, wanted_of}
-use Rattle.sealed_pages.proofs.looking.ReadLemmas.{page_before}
+use Rattle.sealed_pages.specs.lemmas.looking.Read.{page_before}
+use Rattle.sealed_pages.specs.lemmas.memory.Held.{wanted_low}
+use Rattle.sealed_pages.specs.lemmas.memory.Holding.{fit_size}
+use Rattle.sealed_pages.proofs.memory.HeldLemmas.{wanted_high, wanted_of}
 use Rattle.sealed_pages.proofs.page_blob.PageBlob.has_below.Given as given
 use Rattle.sealed_pages.proofs.page_blob.PageBlob.has_below.Goals.{After-from-page_size}
 use Rattle.sealed_pages.proofs.page_blob.PageBlob.has_below.Goals as goal

@@ -1,7 +1,10 @@
 use Rattle.blob_device.specs.declared.runtime.RError.{RError}
 use Rattle.blob_device.specs.declared.runtime.RError.TheVariants.{InvalidChecksum}
 use Rattle.std.specs.Result.{IsErrOf}
-use Rattle.sealed_pages.proofs.looking.Looking.{unchanged_start}
+use Rattle.sealed_pages.specs.lemmas.looking.Looking.{unchanged_start}
+use Rattle.sealed_pages.specs.lemmas.memory.Cache.{found_page_has}
+use Rattle.sealed_pages.specs.lemmas.memory.Held.{held_to}
+use Rattle.sealed_pages.specs.lemmas.slots.Whole.{whole_read}
 use Rattle.sealed_pages.proofs.cutting.Truncating.{no_value}
 use Rattle.std.proofs.Common.{rules, ◌≡◌, ◌≤◌, ◌<◌, ◌+◌, ◌-◌, ◌*◌, ◌^◌, ◌++◌, ◌∙◌, ℕ, List, length, take, drop, length-take, length-drop, ap, sym, subst, arith, ◌/◌, refl, true, false, Bool, inl, inr, Result}
 use Rattle.blob_device.specs.Disk.{Key}
@@ -10,15 +13,13 @@ use Rattle.sealed_pages.specs.Buffer.{key_of}
 use Rattle.sealed_pages.specs.Buffer.{bytes_of, cached}
 use Rattle.sealed_pages.specs.Entries.{ReadsAtMost}
 use Rattle.sealed_pages.specs.lemmas.Entries.{reads_start}
-use Rattle.sealed_pages.proofs.memory.HeldLemmas.{held_to}
 use Rattle.sealed_pages.specs.Cached.{uncached, IsCachedOf}
-use Rattle.sealed_pages.proofs.memory.CacheLemmas.{full_whole, found_page_has}
+use Rattle.sealed_pages.proofs.memory.CacheLemmas.{full_whole}
 use Rattle.sealed_pages.specs.Reads.{below, missing_pages, touched, IsCovered, IsShort, IsWanted}
 use Rattle.sealed_pages.specs.Shown.{shown}
 use Rattle.sealed_pages.specs.SlotNames.{opened_key}
 use Rattle.sealed_pages.specs.View.{view}
 use Rattle.sealed_pages.proofs.memory.Holding.{fit_room}
-use Rattle.sealed_pages.proofs.slots.WholeLemmas.{whole_read}
 use Rattle.sealed_pages.proofs.looking.ReadLemmas.{read_whole, put_tail, prefix_of, same_error}
 use Rattle.sealed_pages.specs.BlobReads.{ReadsPages}
 use Rattle.sealed_pages.specs.Entries.{IsOpenAt}

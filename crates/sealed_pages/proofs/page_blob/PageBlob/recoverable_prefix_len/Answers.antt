@@ -8,7 +8,7 @@ use Rattle.sealed_pages.specs.Entries.{IsOpenAt}
 use Rattle.sealed_pages.specs.Proven.{proven_prefix}
 use Rattle.sealed_pages.specs.Shown.{shown}
 use Rattle.sealed_pages.specs.lemmas.Entries.{reads_more}
-use Rattle.sealed_pages.proofs.looking.Looking.{content_length}
+use Rattle.sealed_pages.specs.lemmas.looking.Looking.{content_length}
 use Rattle.sealed_pages.proofs.looking.PieceLemmas.{prefix_all, proven_is}
 use Rattle.sealed_pages.proofs.page_blob.PageBlob.recoverable_prefix_len.Given as given
 use Rattle.sealed_pages.proofs.page_blob.PageBlob.recoverable_prefix_len.Goals.{After-prefix_len}

@@ -10,10 +10,11 @@ use Rattle.sealed_pages.specs.SlotNames.{is_b}
 use Rattle.sealed_pages.proofs.memory.Holding.{settle_as, fit_room}
 use Rattle.sealed_pages.proofs.Syncing.{needs}
 use Rattle.sealed_pages.proofs.SyncEnds.{sync_idle, sync_unflushed, sync_failed, synced}
-use Rattle.sealed_pages.proofs.cutting.Truncating.{no_need, raised_cause, rose_since}
+use Rattle.sealed_pages.proofs.cutting.Truncating.{no_need, raised_cause}
 use Rattle.sealed_pages.proofs.page_blob.PageBlob.sync.Given as given
 use Rattle.sealed_pages.proofs.page_blob.PageBlob.sync.Goals as goal
 use Rattle.sealed_pages.proofs.page_blob.PageBlob.sync.Goals.{After-flush, After-sync, After-last_slot_of-slot}
+use Rattle.sealed_pages.specs.lemmas.cutting.Truncating.{rose_since}
 
 pub last_slot_of-slot-requires : goal.last_slot_of-slot-requires
 last_slot_of-slot-requires g c some = fit_room _ _ _ _ c.in_ok-this.this.fit c.in_ok-this.this.first (omega (arith, some, c.in_ok-this.this.fit.within))

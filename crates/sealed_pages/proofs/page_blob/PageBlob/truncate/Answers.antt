@@ -11,14 +11,15 @@ use Rattle.sealed_pages.specs.Entries.{NoReads}
 use Rattle.sealed_pages.specs.Shown.{shown}
 use Rattle.sealed_pages.specs.Slots.{page_length}
 use Rattle.sealed_pages.specs.Reading.{Unchanged}
-use Rattle.sealed_pages.proofs.cutting.Calls.{sealing_less}
+use Rattle.sealed_pages.specs.lemmas.Unrecovered.{keeps_sealing, stood_keeps}
+use Rattle.sealed_pages.specs.lemmas.cutting.Calls.{sealing_less}
+use Rattle.sealed_pages.specs.lemmas.cutting.Truncating.{rose_since}
+use Rattle.sealed_pages.specs.lemmas.memory.Holding.{bytes_length, holds_start}
 use Rattle.sealed_pages.proofs.cutting.Entries.{few_none, few_then, then_few}
-use Rattle.sealed_pages.proofs.memory.Holding.{holds_start, bytes_length}
 use Rattle.sealed_pages.proofs.slots.PageCalls.{alone_start}
-use Rattle.sealed_pages.proofs.cutting.Truncating.{no_value, as_of, page_named, not_named, rose_since}
+use Rattle.sealed_pages.proofs.cutting.Truncating.{no_value, as_of, page_named, not_named}
 use Rattle.sealed_pages.proofs.cutting.TruncateEnds as ends
 use Rattle.sealed_pages.proofs.cutting.TruncateEnds.{SyncedCut, IsCut, placed, is_cut, cut_as, cut_open, failed_since, cause_since, caused, page_around, few_start, no_page, no_recovery}
-use Rattle.sealed_pages.proofs.UnrecoveredLemmas.{stood_keeps, keeps_sealing}
 use Rattle.sealed_pages.proofs.page_blob.PageBlob.truncate.Given as given
 use Rattle.sealed_pages.proofs.page_blob.PageBlob.truncate.Goals as goal
 use Rattle.blob_device.proofs.general.Results.{both_ok, err_of, if_ok_weaker, ok_with, on_err}

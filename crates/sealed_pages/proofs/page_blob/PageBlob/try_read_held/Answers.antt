@@ -1,4 +1,5 @@
-use Rattle.sealed_pages.proofs.memory.Holding.{fit_size}
+use Rattle.sealed_pages.specs.lemmas.memory.Held.{held_to}
+use Rattle.sealed_pages.specs.lemmas.memory.Holding.{fit_size}
 use Rattle.sealed_pages.specs.Buffer.{bytes_of}
 use Rattle.std.proofs.Common.{rules, ◌≡◌, ◌≤◌, ◌<◌, ◌+◌, ◌-◌, ◌*◌, ◌++◌, ◌∙◌, ℕ, List, length, take, drop, length-take, length-drop, refl, ap, arith, false, Bool, Result, Ok, Err}
 use Rattle.std.specs.Prelude.{OnOk}
@@ -6,7 +7,7 @@ use Rattle.std.specs.Result.{is_err}
 use Rattle.sealed_pages.specs.Shown.{shown}
 use Rattle.sealed_pages.specs.View.{view}
 use Rattle.sealed_pages.proofs.memory.CacheLemmas.{full_whole}
-use Rattle.sealed_pages.proofs.memory.HeldLemmas.{held_to, held_fits}
+use Rattle.sealed_pages.proofs.memory.HeldLemmas.{held_fits}
 use Rattle.sealed_pages.proofs.looking.ReadLemmas.{read_whole, put_tail, prefix_of, none_taken, refused_range}
 use Rattle.sealed_pages.proofs.page_blob.PageBlob.try_read_held.Goals as goal
 

@@ -2,7 +2,7 @@ use Rattle.std.proofs.Common.{◌≡◌, ◌+◌, ◌∙◌, List, ℕ, length, 
 use Rattle.std.proofs.lemmas.List.{drop-drop}
 use Rattle.sealed_pages.specs.SealedPrefix.{data_from}
 use Rattle.sealed_pages.specs.View.{view}
-use Rattle.sealed_pages.proofs.looking.ReplayLemmas.{data_drop, covered_rest}
+use Rattle.sealed_pages.specs.lemmas.looking.Replay.{covered_rest, data_drop}
 use Rattle.sealed_pages.proofs.replay.PageReplay.advance.Goals as goal
 
 pub returns-clause-replays : goal.returns-clause-replays

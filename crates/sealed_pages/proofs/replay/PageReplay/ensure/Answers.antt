@@ -6,10 +6,11 @@ use Rattle.blob_device.specs.Timeline.{disk}
 use Rattle.sealed_pages.specs.Entries.{IsOpenAt, ReadsAtMost}
 use Rattle.sealed_pages.specs.Readers.{Reader, ReadsUnread, reading, next_of, missing_of, IsReplayOf, SameReader}
 use Rattle.sealed_pages.specs.Reads.{IsWanted, IsShort}
-use Rattle.sealed_pages.proofs.looking.Looking.{unchanged_start, unchanged_now, unchanged_then}
+use Rattle.sealed_pages.specs.lemmas.looking.Looking.{unchanged_now, unchanged_start, unchanged_then}
+use Rattle.sealed_pages.specs.lemmas.looking.Replay.{page_reads_last, page_reads_next}
 use Rattle.sealed_pages.proofs.looking.ReadLemmas.{same_error}
 use Rattle.sealed_pages.proofs.cutting.Truncating.{no_value}
-use Rattle.sealed_pages.proofs.looking.ReplayLemmas.{page_reads_next, page_reads_last, page_reads_start, unread_then, wanted_all, short_all, same_then}
+use Rattle.sealed_pages.proofs.looking.ReplayLemmas.{page_reads_start, unread_then, wanted_all, short_all, same_then}
 use Rattle.sealed_pages.proofs.replay.PageReplay.ensure.Given as given
 use Rattle.sealed_pages.proofs.replay.PageReplay.ensure.Goals.{After-fetch}
 use Rattle.sealed_pages.proofs.replay.PageReplay.ensure.Goals as goal

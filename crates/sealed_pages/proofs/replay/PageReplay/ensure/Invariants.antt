@@ -2,7 +2,7 @@ use Rattle.std.proofs.Common.{◌≡◌, ◌≤◌, ◌-◌, length}
 use Rattle.blob_device.specs.Timeline.{disk}
 use Rattle.sealed_pages.specs.Readers.{reading, next_of, missing_of, IsReplayOf, ReadsUnread, SameReader}
 use Rattle.sealed_pages.specs.Reading.{Unchanged}
-use Rattle.sealed_pages.proofs.looking.ReplayLemmas.{PageReads}
+use Rattle.sealed_pages.specs.lemmas.looking.Replay.{PageReads}
 use Rattle.sealed_pages.proofs.replay.PageReplay.ensure.Given as goal
 
 abbrev pub invariant-fill : goal.invariant-fill

@@ -15,9 +15,10 @@ use Rattle.sealed_pages.specs.Slots.{page_length}
 use Rattle.sealed_pages.specs.View.{page_at}
 use Rattle.sealed_pages.proofs.looking.PieceLemmas.{piece_covered}
 use Rattle.sealed_pages.specs.lemmas.Entries.{reads_start}
-use Rattle.sealed_pages.proofs.looking.Looking.{unchanged_start}
+use Rattle.sealed_pages.specs.lemmas.looking.Looking.{unchanged_start}
+use Rattle.sealed_pages.specs.lemmas.looking.Replay.{longer, more_bytes, more_covered, part_ends, part_some, part_within}
 use Rattle.sealed_pages.proofs.looking.ReadLemmas.{extent_room}
-use Rattle.sealed_pages.proofs.looking.ReplayLemmas.{part_some, part_within, part_ends, pushed_cases, longer, more_bytes, more_covered, missing_later, unread_step, part_wanted, tip_reaches}
+use Rattle.sealed_pages.proofs.looking.ReplayLemmas.{pushed_cases, missing_later, unread_step, part_wanted, tip_reaches}
 use Rattle.sealed_pages.specs.Entries.{ReadsAtMost}
 use Rattle.sealed_pages.specs.Readers.{IsReplayOf}
 use Rattle.sealed_pages.proofs.replay.PageReplay.fetch.Given as given

@@ -2,8 +2,9 @@ use Rattle.std.proofs.Common.{rules, length, refl}
 use Rattle.sealed_pages.specs.Readers.{reading}
 use Rattle.sealed_pages.specs.SlotNames.{opened_key}
 use Rattle.sealed_pages.specs.View.{view}
-use Rattle.sealed_pages.proofs.looking.ReplayLemmas.{data_nil, covered_none, not_begun}
+use Rattle.sealed_pages.proofs.looking.ReplayLemmas.{data_nil, not_begun}
 use Rattle.sealed_pages.proofs.replay.PageReplay.new.Goals as goal
+use Rattle.sealed_pages.specs.lemmas.looking.Replay.{covered_none}
 
 pub returns-in_err-partition : goal.returns-in_err-partition
 returns-in_err-partition g c = not_begun g.S.Seal.seal_of reading (opened_key c.args.blob.now) c.args.blob.now.page_size c.args.blob.now.end c.args.size c.args.tip.items c.from_residual.result c.from_residual.ensures.0 (search rules)

@@ -1,7 +1,8 @@
 use Rattle.std.proofs.Common.{rules, ◌≡◌, length, drop, length-drop, arith}
 use Rattle.sealed_pages.specs.View.{view}
-use Rattle.sealed_pages.proofs.looking.ReplayLemmas.{data_nil, covered_none}
+use Rattle.sealed_pages.proofs.looking.ReplayLemmas.{data_nil}
 use Rattle.sealed_pages.proofs.replay.PageReplay.seek_to.Goals as goal
+use Rattle.sealed_pages.specs.lemmas.looking.Replay.{covered_none}
 
 pub returns-clause-replays : goal.returns-clause-replays
 returns-clause-replays g c content is =

@@ -1,10 +1,11 @@
 use Rattle.std.proofs.Common.{◌≡◌, ◌+◌, ◌-◌, ◌/◌, ◌%◌, ◌∙◌, inl, inr, ℕ, length, take, drop, length-drop, length-append, ap, arith}
 use Rattle.std.proofs.lemmas.List.{take_rest}
 use Rattle.sealed_pages.specs.Readers.{reading, next_of}
-use Rattle.sealed_pages.proofs.looking.ReplayLemmas.{pushed_cases, tip_ends, tip_bytes, tip_covered}
+use Rattle.sealed_pages.proofs.looking.ReplayLemmas.{pushed_cases}
 use Rattle.sealed_pages.proofs.replay.PageReplay.take_tip.Given as given
 use Rattle.sealed_pages.proofs.replay.PageReplay.take_tip.Goals.{After-extend_from_slice}
 use Rattle.sealed_pages.proofs.replay.PageReplay.take_tip.Goals as goal
+use Rattle.sealed_pages.specs.lemmas.looking.Replay.{tip_bytes, tip_covered, tip_ends}
 
 -- the next byte that is not at hand
 next : (g : given.Over) (c : After-extend_from_slice g) → c.args.self.now.at + c.remaining.result ≡ next_of (reading c.args.self.now)

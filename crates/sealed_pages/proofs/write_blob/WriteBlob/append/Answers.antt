@@ -1,9 +1,10 @@
 use Rattle.std.proofs.Common.{◌≡◌, ◌∙◌, length, ap, arith, rules}
 use Rattle.blob_device.specs.Timeline.{disk}
 use Rattle.sealed_pages.specs.unsealed.Writing.{shown, blob_key, bytes_of}
-use Rattle.sealed_pages.proofs.looking.Looking.{content_length}
+use Rattle.sealed_pages.specs.lemmas.looking.Looking.{content_length}
+use Rattle.sealed_pages.specs.lemmas.unsealed.Writing.{idle_parts}
 use Rattle.sealed_pages.proofs.unsealed.Tails.{append_leaves}
-use Rattle.sealed_pages.proofs.unsealed.WritingLemmas.{written_last, idle_parts}
+use Rattle.sealed_pages.proofs.unsealed.WritingLemmas.{written_last}
 use Rattle.sealed_pages.proofs.unsealed.Put.{append_since, append_lasts}
 use Rattle.sealed_pages.proofs.write_blob.WriteBlob.append.Given as given
 use Rattle.sealed_pages.proofs.write_blob.WriteBlob.append.Goals as goal

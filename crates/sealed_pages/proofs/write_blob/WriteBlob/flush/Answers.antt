@@ -2,11 +2,12 @@ use Rattle.sealed_pages.proofs.cutting.Truncating.{no_value}
 use Rattle.std.proofs.Common.{ℕ, List, get_or, ap, rules}
 use Rattle.blob_device.specs.Timeline.{disk}
 use Rattle.sealed_pages.specs.unsealed.Writing.{WriteBuffer, shown, blob_key}
-use Rattle.sealed_pages.proofs.unsealed.LastingLemmas.{keeping_now, kept_after, outside_none}
+use Rattle.sealed_pages.proofs.unsealed.LastingLemmas.{keeping_now, kept_after}
 use Rattle.sealed_pages.proofs.unsealed.Sync.{FlushBy, flush_run, flush_lasts}
 use Rattle.sealed_pages.proofs.write_blob.WriteBlob.flush.Given as given
 use Rattle.sealed_pages.proofs.write_blob.WriteBlob.flush.Goals as goal
 use Rattle.sealed_pages.proofs.write_blob.WriteBlob.flush.Goals.{After-flushed}
+use Rattle.sealed_pages.specs.lemmas.unsealed.Lasting.{outside_none}
 
 -- what has been done to the blob by then
 by_flush : (g : given.Over) (c : After-flushed g) → g.D.Device.Tells → FlushBy (shown c.args.self) (g.D.Device.time c.args.dev.now) (g.D.Device.time c.flushed.new.dev)

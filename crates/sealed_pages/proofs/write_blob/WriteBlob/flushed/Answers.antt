@@ -5,9 +5,10 @@ use Rattle.blob_device.specs.Disk.{Outside}
 use Rattle.blob_device.specs.Timeline.{disk}
 use Rattle.sealed_pages.specs.unsealed.Writing.{shown, blob_key, bytes_of, run_of, size_of}
 use Rattle.sealed_pages.proofs.unsealed.SparingLemmas.{sparing_now}
-use Rattle.sealed_pages.proofs.unsealed.WritingLemmas.{passes_write, written_content, flushed_bytes, over_after, part_at, grown_at, grown_open, idle_parts}
+use Rattle.sealed_pages.proofs.unsealed.WritingLemmas.{passes_write, written_content, flushed_bytes, over_after, part_at, grown_at, grown_open}
 use Rattle.sealed_pages.proofs.unsealed.ContentLemmas.{adds_start}
-use Rattle.sealed_pages.proofs.HadLemmas.{had_write}
+use Rattle.sealed_pages.specs.lemmas.Had.{had_write}
+use Rattle.sealed_pages.specs.lemmas.unsealed.Writing.{idle_parts}
 use Rattle.sealed_pages.proofs.unsealed.Sync.{FlushBy, flush_written}
 use Rattle.sealed_pages.proofs.write_blob.WriteBlob.flushed.Given as given
 use Rattle.sealed_pages.proofs.write_blob.WriteBlob.flushed.Goals as goal

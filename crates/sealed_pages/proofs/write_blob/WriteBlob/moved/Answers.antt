@@ -6,9 +6,9 @@ use Rattle.blob_device.specs.Change.{written}
 use Rattle.blob_device.specs.Timeline.{disk}
 use Rattle.sealed_pages.specs.Entries.{IsOpenAt}
 use Rattle.sealed_pages.specs.unsealed.Writing.{WriteBuffer, shown, blob_key, bytes_of}
-use Rattle.sealed_pages.proofs.looking.Looking.{content_length}
-use Rattle.sealed_pages.proofs.WriteLemmas.{written_nothing}
-use Rattle.sealed_pages.proofs.unsealed.WritingLemmas.{idle_bytes}
+use Rattle.sealed_pages.specs.lemmas.Write.{written_nothing}
+use Rattle.sealed_pages.specs.lemmas.looking.Looking.{content_length}
+use Rattle.sealed_pages.specs.lemmas.unsealed.Writing.{idle_bytes}
 use Rattle.sealed_pages.proofs.unsealed.ContentLemmas.{adds_start}
 use Rattle.sealed_pages.proofs.write_blob.WriteBlob.moved.Goals as goal
 use Rattle.blob_device.specs.Lengths.{length-written}

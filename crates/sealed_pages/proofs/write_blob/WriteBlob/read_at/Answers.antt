@@ -6,7 +6,7 @@ use Rattle.blob_device.specs.Change.{written}
 use Rattle.blob_device.specs.Timeline.{disk}
 use Rattle.sealed_pages.specs.Filled.{HasBytes}
 use Rattle.sealed_pages.specs.unsealed.Writing.{shown, blob_key, bytes_of}
-use Rattle.sealed_pages.proofs.looking.Looking.{content_length}
+use Rattle.sealed_pages.specs.lemmas.looking.Looking.{content_length}
 use Rattle.sealed_pages.proofs.unsealed.Read.{read_refused}
 use Rattle.sealed_pages.proofs.WriteLemmas.{filled_is}
 use Rattle.sealed_pages.proofs.write_blob.WriteBlob.read_at.Goals as goal

@@ -4,7 +4,7 @@ use Rattle.blob_device.specs.Disk.{Key}
 use Rattle.blob_device.specs.Timeline.{disk}
 use Rattle.sealed_pages.specs.Filled.{HasBytes}
 use Rattle.sealed_pages.specs.unsealed.Writing.{shown, blob_key}
-use Rattle.sealed_pages.proofs.looking.Looking.{content_length, unchanged_on}
+use Rattle.sealed_pages.specs.lemmas.looking.Looking.{content_length, unchanged_on}
 use Rattle.sealed_pages.proofs.unsealed.RunLemmas.{filled, on_ok}
 use Rattle.sealed_pages.proofs.unsealed.WritingLemmas.{read_once}
 use Rattle.sealed_pages.proofs.write_blob.WriteBlob.read_blob.Goals as goal

@@ -7,7 +7,7 @@ use Rattle.blob_device.specs.Change.{Resize}
 use Rattle.blob_device.specs.Timeline.{disk}
 use Rattle.blob_device.specs.lemmas.Moments.{ok_blob}
 use Rattle.sealed_pages.specs.unsealed.Writing.{shown, blob_key}
-use Rattle.sealed_pages.proofs.looking.Looking.{content_length}
+use Rattle.sealed_pages.specs.lemmas.looking.Looking.{content_length}
 use Rattle.sealed_pages.proofs.unsealed.SparingLemmas.{loose_start, passes_at}
 use Rattle.sealed_pages.proofs.WriteLemmas.{resized_within}
 use Rattle.sealed_pages.proofs.unsealed.WritingLemmas.{cut_part, cut_at, cut_open}

@@ -2,8 +2,8 @@ use Rattle.std.proofs.Common.{◌≡◌, ◌∙◌, false, sym, arith, rules, re
 use Rattle.blob_device.specs.Timeline.{disk}
 use Rattle.sealed_pages.specs.unsealed.Writing.{shown, blob_key, bytes_of, is_unsettled, Over}
 use Rattle.sealed_pages.specs.lemmas.Entries.{no_reads_start, open_some}
-use Rattle.sealed_pages.proofs.looking.Looking.{content_length}
-use Rattle.sealed_pages.proofs.unsealed.WritingLemmas.{settled_parts}
+use Rattle.sealed_pages.specs.lemmas.looking.Looking.{content_length}
+use Rattle.sealed_pages.specs.lemmas.unsealed.Writing.{settled_parts}
 use Rattle.sealed_pages.proofs.unsealed.Settled.{SettledAs}
 use Rattle.sealed_pages.proofs.unsealed.Sync.{FlushBy, flush_none, flush_lasts, rested_as, rested_same, flush_run, sync_rested, sync_to, sync_failed}
 use Rattle.sealed_pages.proofs.write_blob.WriteBlob.sync.Given as given

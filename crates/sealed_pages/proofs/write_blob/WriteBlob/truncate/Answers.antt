@@ -4,7 +4,7 @@ use Rattle.std.proofs.Common.{refl, take, arith, rules, sym}
 use Rattle.blob_device.specs.Timeline.{disk}
 use Rattle.sealed_pages.specs.unsealed.Writing.{WriteBuffer, shown, blob_key, bytes_of}
 use Rattle.sealed_pages.specs.lemmas.Entries.{no_reads_start, open_some}
-use Rattle.sealed_pages.proofs.looking.Looking.{content_length}
+use Rattle.sealed_pages.specs.lemmas.looking.Looking.{content_length}
 use Rattle.sealed_pages.proofs.unsealed.Cut.{CutBy, cut_none, cut_lasts, cut_flushed, cut_resized, cut_rested, cut_to, cut_failed}
 use Rattle.sealed_pages.proofs.unsealed.Settled.{SettledAs}
 use Rattle.sealed_pages.proofs.write_blob.WriteBlob.truncate.Given as given

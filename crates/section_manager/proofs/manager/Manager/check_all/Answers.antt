@@ -2,7 +2,7 @@ use Rattle.std.proofs.Common.{ℕ, ◌≤◌, List, take, get_or, inl, inr, sym,
 use Rattle.std.specs.List.{Contains}
 use Rattle.std.proofs.lemmas.List.{take_more, take_all}
 use Rattle.std.proofs.lemmas.List.Elements.{Contains-push_cases}
-use Rattle.section_manager.proofs.sections.CutLemmas.{not_below}
+use Rattle.section_manager.specs.lemmas.sections.Cut.{not_below}
 use Rattle.section_manager.proofs.WalkLemmas.{none_pruned}
 use Rattle.section_manager.proofs.manager.Manager.check_all.Goals as goal
 

@@ -4,7 +4,7 @@ use Rattle.std.specs.List.{Contains}
 use Rattle.std.specs.Ordering.{nat_cmp}
 use Rattle.std.proofs.lemmas.Cmp.{nat_cmp_total, eq_by_cmp_equiv}
 use Rattle.std.proofs.lemmas.Map.Views.{Contains-keys_from_lookup, IsSome-lookup_from_Contains}
-use Rattle.section_manager.proofs.sections.CutLemmas.{not_below}
+use Rattle.section_manager.specs.lemmas.sections.Cut.{not_below}
 use Rattle.section_manager.proofs.manager.Manager.check_sizes.Goals as goal
 use Rattle.blob_device.proofs.general.Lists.{first_in, first_or_later, later_in}
 use Rattle.blob_device.proofs.general.Numbers.{same_number}

@@ -4,8 +4,9 @@ use Rattle.blob_device.specs.Timeline.{disk}
 use Rattle.section_manager.specs.managing.Managed.{shown}
 use Rattle.section_manager.specs.lemmas.Seen.{err_seen, held_has, short}
 use Rattle.section_manager.proofs.sections.CuttingEnds.{cut_done, cut_failed, cut_failed_by, cut_idle}
-use Rattle.section_manager.proofs.sections.SyncLemmas.{BufferLaws, key_is, open_before}
+use Rattle.section_manager.proofs.sections.SyncLemmas.{key_is, open_before}
 use Rattle.section_manager.proofs.manager.Manager.cut_one.Goals as goal
+use Rattle.section_manager.specs.lemmas.sections.Sync.{BufferLaws}
 
 pub returns-then-not-is_longer : goal.returns-then-not-is_longer
 returns-then-not-is_longer g c =

@@ -5,7 +5,7 @@ use Rattle.blob_device.specs.Disk.{Key}
 use Rattle.blob_device.specs.Timeline.{disk}
 use Rattle.sealed_pages.specs.Entries.{IsOpenAt}
 use Rattle.section_manager.specs.managing.Managed.{shown}
-use Rattle.section_manager.proofs.sections.OverLemmas.{same_key}
+use Rattle.section_manager.specs.lemmas.sections.Over.{same_key}
 use Rattle.section_manager.proofs.sections.OpenLemmas.{on_some}
 use Rattle.section_manager.proofs.manager.Manager.get_or_create.Goals as goal
 

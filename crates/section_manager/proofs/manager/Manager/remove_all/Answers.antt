@@ -5,10 +5,11 @@ use Rattle.section_manager.specs.Doomed.{IsDoomed, GoesBefore}
 use Rattle.section_manager.specs.Lasting.{Removing}
 use Rattle.section_manager.specs.managing.Managed.{flagged, shown}
 use Rattle.section_manager.specs.lemmas.Seen.{err_seen, failed_later}
-use Rattle.section_manager.proofs.sections.RemoveLemmas.{no_some, doomed_known, none_gone, no_progress, removing_start, removing_on, next_same, one_more_entry, one_gone, flag_on, all_gone, all_flagged, all_kept}
+use Rattle.section_manager.proofs.sections.RemoveLemmas.{no_some, none_gone, no_progress, removing_start, removing_on, next_same, one_more_entry, one_gone, flag_on, all_gone, all_flagged, all_kept}
 use Rattle.section_manager.proofs.sections.RemovingEnds.{all_failed}
 use Rattle.section_manager.proofs.manager.Manager.remove_all.Goals as goal
 use Rattle.section_manager.proofs.manager.Manager.remove_all.Goals.{then-removed, else-removed}
+use Rattle.section_manager.specs.lemmas.sections.Remove.{doomed_known}
 
 pub loop-section-init : goal.loop-section-init
 loop-section-init g c = record {

@@ -2,7 +2,7 @@ use Rattle.std.proofs.Common.{ℕ, List, subst}
 use Rattle.std.specs.Prelude.{string_bytes}
 use Rattle.blob_device.specs.Disk.{AreNamesIn}
 use Rattle.blob_device.specs.Timeline.{disk}
-use Rattle.sealed_pages.proofs.looking.Looking.{unchanged_on}
+use Rattle.sealed_pages.specs.lemmas.looking.Looking.{unchanged_on}
 use Rattle.section_manager.specs.managing.Finding.{finding}
 use Rattle.section_manager.specs.lemmas.Seen.{device_failed, err_seen}
 use Rattle.section_manager.proofs.sections.InitEnds.{names_refused, names_unread, scanned}

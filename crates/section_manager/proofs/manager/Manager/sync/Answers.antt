@@ -4,7 +4,7 @@ use Rattle.section_manager.specs.managing.Managed.{shown}
 use Rattle.section_manager.specs.managing.Settling.{IsAnyBelow}
 use Rattle.section_manager.specs.lemmas.Seen.{err_same, err_seen}
 use Rattle.section_manager.proofs.sections.SettlingEnds.{below_none, each_refused}
-use Rattle.section_manager.proofs.sections.SyncLemmas.{BufferLaws}
+use Rattle.section_manager.specs.lemmas.sections.Sync.{BufferLaws}
 use Rattle.section_manager.proofs.manager.Manager.sync.Goals as goal
 
 pub returns-in_err-check_all : goal.returns-in_err-check_all

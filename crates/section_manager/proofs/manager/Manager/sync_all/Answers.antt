@@ -4,7 +4,7 @@ use Rattle.std.specs.List.{Contains}
 use Rattle.section_manager.specs.managing.Managed.{shown}
 use Rattle.section_manager.specs.lemmas.Seen.{err_seen, short_by}
 use Rattle.section_manager.proofs.sections.SettlingEnds.{each_refused, settles_all}
-use Rattle.section_manager.proofs.sections.SyncLemmas.{BufferLaws}
+use Rattle.section_manager.specs.lemmas.sections.Sync.{BufferLaws}
 use Rattle.section_manager.proofs.manager.Manager.sync_all.Goals as goal
 
 pub returns-in_err-numbers : goal.returns-in_err-numbers

@@ -4,8 +4,9 @@ use Rattle.std.proofs.lemmas.List.{take_all}
 use Rattle.section_manager.specs.managing.Managed.{shown}
 use Rattle.section_manager.specs.lemmas.Seen.{err_seen}
 use Rattle.section_manager.proofs.sections.SettlingEnds.{each_failed, each_settled, one_makes, one_tries}
-use Rattle.section_manager.proofs.sections.SyncLemmas.{BufferLaws, SyncWalked, sync_tried_start, sync_walked_start, sync_tried_more, sync_walked_more}
+use Rattle.section_manager.proofs.sections.SyncLemmas.{SyncWalked, sync_tried_start, sync_walked_start, sync_tried_more, sync_walked_more}
 use Rattle.section_manager.proofs.manager.Manager.sync_each.Goals as goal
+use Rattle.section_manager.specs.lemmas.sections.Sync.{BufferLaws}
 
 pub loop-section-init : goal.loop-section-init
 loop-section-init g c =

@@ -2,8 +2,9 @@ use Rattle.std.proofs.Common.{◌≡◌, ◌∙◌, Some, true, refl, sym}
 use Rattle.section_manager.specs.managing.Managed.{shown}
 use Rattle.section_manager.specs.lemmas.Seen.{err_seen, held_has, raised_failed, short}
 use Rattle.section_manager.proofs.sections.SettlingEnds.{one_failed, one_idle, one_settled}
-use Rattle.section_manager.proofs.sections.SyncLemmas.{BufferLaws, open_before}
+use Rattle.section_manager.proofs.sections.SyncLemmas.{open_before}
 use Rattle.section_manager.proofs.manager.Manager.sync_one.Goals as goal
+use Rattle.section_manager.specs.lemmas.sections.Sync.{BufferLaws}
 
 pub returns-then-not-is_unsettled : goal.returns-then-not-is_unsettled
 returns-then-not-is_unsettled g c =

@@ -2,7 +2,7 @@ use Rattle.section_manager.specs.managing.Managed.{shown}
 use Rattle.section_manager.specs.lemmas.Seen.{err_same, err_seen}
 use Rattle.section_manager.proofs.sections.CuttingEnds.{behind_cut, behind_failed, behind_refused, lifted_can, lifted_over}
 use Rattle.section_manager.proofs.sections.OpenLemmas.{not_pruned}
-use Rattle.section_manager.proofs.sections.SyncLemmas.{BufferLaws}
+use Rattle.section_manager.specs.lemmas.sections.Sync.{BufferLaws}
 use Rattle.section_manager.proofs.manager.Manager.truncate_pending.Goals as goal
 
 pub returns-in_err-prune_guard : goal.returns-in_err-prune_guard

@@ -1,7 +1,7 @@
 use Rattle.section_manager.specs.managing.Managed.{shown}
 use Rattle.section_manager.specs.lemmas.Seen.{err_same, err_seen}
 use Rattle.section_manager.proofs.sections.CuttingEnds.{cut_above, cut_refused}
-use Rattle.section_manager.proofs.sections.SyncLemmas.{BufferLaws}
+use Rattle.section_manager.specs.lemmas.sections.Sync.{BufferLaws}
 use Rattle.section_manager.proofs.manager.Manager.truncate_pending_section.Goals as goal
 
 pub returns-in_err-prune_guard : goal.returns-in_err-prune_guard

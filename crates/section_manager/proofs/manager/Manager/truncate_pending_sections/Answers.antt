@@ -9,8 +9,8 @@ use Rattle.std.proofs.lemmas.Map.Views.{Contains-keys_from_lookup, IsSome-lookup
 use Rattle.std.specs.Map.{keys_of}
 use Rattle.section_manager.specs.managing.Managed.{shown}
 use Rattle.section_manager.specs.lemmas.Seen.{err_same, err_seen}
-use Rattle.section_manager.proofs.sections.SyncLemmas.{BufferLaws}
-use Rattle.section_manager.proofs.sections.CutLemmas.{CutWalked, CutTried, cut_tried_start, cut_walked_start, can_still, cut_tried_more, cut_walked_more}
+use Rattle.section_manager.specs.lemmas.sections.Cut.{CutTried, CutWalked, can_still, cut_tried_more, cut_tried_start, cut_walked_more, cut_walked_start}
+use Rattle.section_manager.specs.lemmas.sections.Sync.{BufferLaws}
 use Rattle.section_manager.proofs.sections.CuttingEnds.{cut_call, cut_made, each_cut, each_failed, each_refused, walked_named}
 use Rattle.section_manager.proofs.manager.Manager.truncate_pending_sections.Goals as goal
 use Rattle.blob_device.proofs.general.Maps.{numbers_of, numbers_push, numbers_shown}

@@ -2,7 +2,7 @@ use Rattle.std.specs.BTreeMap.{get}
 use Rattle.std.specs.List.{Contains}
 use Rattle.std.specs.Ordering.{nat_cmp}
 use Rattle.section_manager.specs.managing.Managed.{shown}
-use Rattle.section_manager.proofs.sections.CutLemmas.{CutWalked, CutTried}
+use Rattle.section_manager.specs.lemmas.sections.Cut.{CutTried, CutWalked}
 use Rattle.section_manager.proofs.manager.Manager.truncate_pending_sections.Given as goal
 use Rattle.blob_device.proofs.general.Maps.{numbers_of}
 

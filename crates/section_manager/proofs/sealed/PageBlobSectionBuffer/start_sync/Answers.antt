@@ -1,7 +1,7 @@
 use Rattle.blob_device.specs.Timeline.{disk}
 use Rattle.sealed_pages.specs.Buffer.{key_of}
 use Rattle.sealed_pages.specs.Shown.{shown}
-use Rattle.sealed_pages.proofs.UnrecoveredLemmas.{adopted_backed}
+use Rattle.sealed_pages.specs.lemmas.Unrecovered.{adopted_backed}
 use Rattle.section_manager.proofs.buffers.SealedCalls.{uncut_moments, stays}
 use Rattle.section_manager.proofs.sealed.PageBlobSectionBuffer.start_sync.Goals as goal
 

@@ -3,9 +3,10 @@ use Rattle.std.proofs.lemmas.Bool.{cases_lt}
 use Rattle.blob_device.specs.Timeline.{Timeline, disk}
 use Rattle.sealed_pages.specs.Buffer.{key_of, size_of}
 use Rattle.sealed_pages.specs.Shown.{shown}
-use Rattle.sealed_pages.proofs.UnrecoveredLemmas.{adopted_backed}
+use Rattle.sealed_pages.specs.lemmas.Unrecovered.{adopted_backed}
+use Rattle.section_manager.specs.lemmas.buffers.SealedCalls.{sound_page}
 use Rattle.section_manager.specs.Sealed.{Stands}
-use Rattle.section_manager.proofs.buffers.SealedCalls.{cut_moments, cut_stands, same_stands, cut_sealed, sound_page}
+use Rattle.section_manager.proofs.buffers.SealedCalls.{cut_moments, cut_stands, same_stands, cut_sealed}
 use Rattle.section_manager.proofs.sealed.PageBlobSectionBuffer.truncate.Goals as goal
 
 pub returns-clause-moments : goal.returns-clause-moments

@@ -1,4 +1,4 @@
-use Rattle.section_manager.proofs.sections.EntryLemmas.{starts_none}
+use Rattle.section_manager.specs.lemmas.sections.Entry.{starts_none}
 use Rattle.section_manager.proofs.buffers.UnsealedCalls.{sync_moments}
 use Rattle.section_manager.proofs.unsealed.WriteBlobSectionBuffer.start_sync.Goals as goal
 

@@ -3,8 +3,9 @@ use Rattle.std.proofs.lemmas.Bool.{cases_lt}
 use Rattle.blob_device.specs.Disk.{Blob}
 use Rattle.blob_device.specs.Timeline.{Timeline, disk}
 use Rattle.section_manager.specs.unsealed.Buffer.{key_of, count_of, IsWhole}
-use Rattle.section_manager.proofs.sections.EntryLemmas.{starts_none}
-use Rattle.section_manager.proofs.buffers.UnsealedCalls.{cut_moments, whole_at_rest, whole_again, stands_after, undamaged}
+use Rattle.section_manager.specs.lemmas.buffers.UnsealedCalls.{whole_at_rest}
+use Rattle.section_manager.specs.lemmas.sections.Entry.{starts_none}
+use Rattle.section_manager.proofs.buffers.UnsealedCalls.{cut_moments, whole_again, stands_after, undamaged}
 use Rattle.section_manager.proofs.unsealed.WriteBlobSectionBuffer.truncate.Goals as goal
 use Rattle.blob_device.proofs.general.Results.{if_ok_with}
 

@@ -3,9 +3,10 @@ use Rattle.std.proofs.Common.{◌≡◌, ◌∙◌, ◌%◌, ℕ, inl, inr, leng
 use Rattle.std.proofs.Math.Nat.{mod_self}
 use Rattle.section_manager.specs.declared.journal.Error.TheVariants.{Mem}
 use Rattle.segments.specs.FixedShown.{shown}
-use Rattle.segments.proofs.adding.Adding.{along_nothing, error_is, failed, item_appended, item_overfills, mem_not_full, mem_not_pruned, pruned_not_full}
-use Rattle.segments.proofs.held.Passing.{guard_ok, guard_on, no_error}
-use Rattle.segments.proofs.adding.WriteLemmas.{are_pages}
+use Rattle.segments.proofs.adding.Adding.{item_appended, item_overfills, pruned_not_full}
+use Rattle.segments.specs.lemmas.adding.Adding.{along_nothing, error_is, failed, mem_not_full, mem_not_pruned}
+use Rattle.segments.specs.lemmas.adding.Write.{are_pages}
+use Rattle.segments.specs.lemmas.held.Passing.{guard_ok, guard_on, no_error}
 use Rattle.segments.proofs.fixed.Journal.append.Goals as goal
 use Rattle.blob_device.proofs.general.Results.{err_of}
 

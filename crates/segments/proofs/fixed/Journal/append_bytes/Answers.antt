@@ -12,23 +12,25 @@ use Rattle.sealed_pages.specs.Shown as page_blob
 use Rattle.sealed_pages.specs.Tails.{LeavesTail}
 use Rattle.sealed_pages.specs.Unrecovered.{IsAdopted, IsUnrecovered}
 use Rattle.sealed_pages.specs.declared.page_blob.PageBlob.{PageBlob}
-use Rattle.sealed_pages.proofs.UnrecoveredLemmas.{adopted_backed}
+use Rattle.sealed_pages.specs.lemmas.Unrecovered.{adopted_backed}
+use Rattle.section_manager.specs.lemmas.sections.Lent.{lent_back}
+use Rattle.segments.specs.lemmas.adding.Adding.{Took, along_taken, along_untaken, error_is, failed, mem_not_full, mem_not_pruned, too_many, too_many_taken, took_of}
+use Rattle.segments.specs.lemmas.adding.Append.{Added, added_stands, append_journal, taken_adopted, taken_bytes, taken_size, taken_still}
+use Rattle.segments.specs.lemmas.adding.Write.{are_pages, bytes_here, size_here}
+use Rattle.segments.specs.lemmas.held.Passing.{guard_ok, guard_on, no_error}
 use Rattle.section_manager.specs.Sealed.{Stands}
 use Rattle.section_manager.specs.Sections.{section_key, key_of}
 use Rattle.section_manager.specs.declared.journal.Error.{Error}
 use Rattle.section_manager.specs.declared.journal.Error.TheVariants.{Full, Mem}
 use Rattle.section_manager.specs.managing.Managed as managed
 use Rattle.section_manager.specs.lemmas.Keys.{keys_differ}
-use Rattle.section_manager.proofs.sections.LentLemmas.{lent_back}
 use Rattle.segments.specs.FixedFull.{full_or_raised_of}
 use Rattle.segments.specs.FixedLists.{section_size}
 use Rattle.segments.specs.FixedShown.{shown}
-use Rattle.segments.proofs.adding.Adding.{Took, along_taken, along_untaken, buffer_error, buffer_well, error_is, failed, mem_not_full, mem_not_pruned, took_of, taken_cause, taken_not_full, too_many, too_many_taken, why_cause, why_not_pruned, why_of}
-use Rattle.segments.proofs.adding.AppendLemmas.{Added, added_stands, append_journal, appended_adopted, at_ok, full_is, same_setting, taken_adopted, taken_bytes, taken_size, taken_still, was_err, was_ok}
+use Rattle.segments.proofs.adding.Adding.{buffer_error, buffer_well, taken_cause, taken_not_full, why_cause, why_not_pruned, why_of}
+use Rattle.segments.proofs.adding.AppendLemmas.{appended_adopted, at_ok, full_is, same_setting, was_err, was_ok}
 use Rattle.segments.proofs.held.Calls.{bounds_then, same_then}
-use Rattle.segments.proofs.held.Passing.{guard_ok, guard_on, no_error}
 use Rattle.segments.proofs.adding.Spared.{bytes_spared}
-use Rattle.segments.proofs.adding.WriteLemmas.{are_pages, bytes_here, size_here}
 use Rattle.segments.proofs.adding.TailLemmas.{appended_tail}
 use Rattle.segments.proofs.fixed.Journal.append_bytes.Goals as goal
 use Rattle.blob_device.proofs.general.Options.{some_same}

@@ -1,6 +1,6 @@
 use Rattle.section_manager.specs.managing.Managed.{shown}
 use Rattle.segments.proofs.opened.BoundLemmas.{finds_short, finds_long, finds_pruned}
-use Rattle.segments.proofs.held.Passing.{no_error}
+use Rattle.segments.specs.lemmas.held.Passing.{no_error}
 use Rattle.segments.proofs.fixed.Journal.end_within.Goals as goal
 use Rattle.blob_device.proofs.general.Results.{err_of}
 

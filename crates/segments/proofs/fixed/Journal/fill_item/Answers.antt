@@ -5,8 +5,8 @@ use Rattle.blob_device.specs.declared.runtime.RError.TheVariants.{InvalidChecksu
 use Rattle.sealed_pages.specs.Buffer.{key_of, size_of, bytes_of}
 use Rattle.sealed_pages.specs.Shown.{shown}
 use Rattle.sealed_pages.specs.lemmas.Entries.{reads_more}
-use Rattle.sealed_pages.proofs.memory.Holding.{fit_size}
-use Rattle.sealed_pages.proofs.looking.Looking.{unchanged_start}
+use Rattle.sealed_pages.specs.lemmas.looking.Looking.{unchanged_start}
+use Rattle.sealed_pages.specs.lemmas.memory.Holding.{fit_size}
 use Rattle.section_manager.specs.Raised.{raised}
 use Rattle.segments.specs.lemmas.FixedErrors.{of_buffer, read_fails}
 use Rattle.segments.proofs.looking.ItemReads.{no_reads}

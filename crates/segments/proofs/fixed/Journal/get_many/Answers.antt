@@ -1,6 +1,6 @@
 use Rattle.std.proofs.Common.{refl}
 use Rattle.segments.proofs.looking.GettingEnds.{many_unfound, many_past, many_got}
-use Rattle.segments.proofs.adding.WriteLemmas.{are_pages}
+use Rattle.segments.specs.lemmas.adding.Write.{are_pages}
 use Rattle.segments.proofs.fixed.Journal.get_many.Goals as goal
 use Rattle.blob_device.proofs.general.Results.{err_of}
 

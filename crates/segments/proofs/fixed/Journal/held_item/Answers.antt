@@ -2,7 +2,7 @@ use Rattle.std.proofs.Common.{rules, ◌≡◌, ◌∙◌, ◌*◌, inl, inr, No
 use Rattle.std.proofs.lemmas.List.{take_at}
 use Rattle.sealed_pages.specs.Buffer.{size_of, bytes_of}
 use Rattle.sealed_pages.specs.Shown.{shown}
-use Rattle.sealed_pages.proofs.memory.Holding.{fit_size}
+use Rattle.sealed_pages.specs.lemmas.memory.Holding.{fit_size}
 use Rattle.segments.specs.FixedItems.{item_at}
 use Rattle.segments.proofs.looking.Memory.{cache_for, told_held}
 use Rattle.segments.proofs.looking.ReadLemmas.{read_item}

@@ -9,7 +9,7 @@ use Rattle.segments.specs.FixedDraining.{Drains}
 use Rattle.segments.specs.FixedShown.{shown}
 use Rattle.segments.specs.FixedWalking.{walk_of}
 use Rattle.segments.proofs.opened.DrainedEnds.{none_past, ok_unfailed, failed_bounds, failed_cause, drained_bounds, drained_cause}
-use Rattle.segments.proofs.adding.WriteLemmas.{are_pages}
+use Rattle.segments.specs.lemmas.adding.Write.{are_pages}
 use Rattle.segments.proofs.fixed.Journal.init_at_most.Goals as goal
 use Rattle.blob_device.proofs.general.Results.{err_of}
 

@@ -11,7 +11,7 @@ use Rattle.section_manager.specs.declared.sealed.AppendFactory.{AppendFactory}
 use Rattle.segments.specs.FixedShown as journal
 use Rattle.sealed_pages.specs.declared.page_blob.PageBlob.{PageBlob}
 use Rattle.segments.proofs.opened.Opens.{opens_none, opens_failed, opens_memory, opens_ok, opens_as}
-use Rattle.segments.proofs.adding.WriteLemmas.{are_pages}
+use Rattle.segments.specs.lemmas.adding.Write.{are_pages}
 use Rattle.segments.proofs.fixed.Journal.init_bounded.Goals as goal
 use Rattle.blob_device.proofs.general.Results.{err_of}
 

@@ -1,6 +1,6 @@
 use Rattle.std.proofs.Common.{refl, ℕ, ◌-◌, ap, arith}
 use Rattle.segments.proofs.looking.GettingEnds.{last_unfound, last_none, last_got, last_failed}
-use Rattle.segments.proofs.adding.WriteLemmas.{are_pages}
+use Rattle.segments.specs.lemmas.adding.Write.{are_pages}
 use Rattle.segments.proofs.fixed.Journal.last.Goals as goal
 use Rattle.blob_device.proofs.general.Results.{err_of}
 

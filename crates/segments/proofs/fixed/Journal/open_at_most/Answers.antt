@@ -10,7 +10,7 @@ use Rattle.segments.specs.FixedLists.{Lists}
 use Rattle.sealed_pages.specs.declared.page_blob.PageBlob.{PageBlob}
 use Rattle.segments.proofs.opened.BoundLemmas.{whole_whole}
 use Rattle.segments.proofs.opened.BoundsEnds.{cut_unnamed, end_cut, end_cause, unopened_bounds, unopened_cause, opened_bounds, opened_cause, if_ok_on, journal_there, cut_sealed, none_ends, still_moments, moments_tail, opened_tail, entries_tail}
-use Rattle.segments.proofs.adding.WriteLemmas.{are_pages}
+use Rattle.segments.specs.lemmas.adding.Write.{are_pages}
 use Rattle.segments.proofs.fixed.Journal.open_at_most.Goals as goal
 use Rattle.blob_device.proofs.general.Results.{err_of}
 

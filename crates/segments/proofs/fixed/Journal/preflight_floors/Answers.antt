@@ -15,7 +15,7 @@ use Rattle.section_manager.specs.Sections.{Sections}
 use Rattle.segments.specs.FixedFloors.{Floors, preflight_shown, journal_of}
 use Rattle.segments.specs.FixedLists.{Lists}
 use Rattle.segments.proofs.opened.OpenLemmas.{opened_journal}
-use Rattle.segments.proofs.adding.WriteLemmas.{are_pages}
+use Rattle.segments.specs.lemmas.adding.Write.{are_pages}
 use Rattle.segments.proofs.opened.FloorLemmas.{Checked, checked_none, checked_more, reaches, within, last_taken}
 use Rattle.segments.proofs.opened.Markers.{floors_opening, floors_owing, floors_marker, marker_stage, marker_taken, all_taken, none_taken}
 use Rattle.segments.proofs.opened.Stages.{stage_opened, stage_same, stage_checkable}

@@ -12,7 +12,7 @@ use Rattle.segments.proofs.checkpoint.Earlier.{Come}
 use Rattle.segments.proofs.checkpoint.Found.{found, opened_for}
 use Rattle.segments.proofs.checkpoint.Preflights.{checks_partial, checks_opening, looks_owing, checks_ok}
 use Rattle.segments.proofs.opened.Stages.{stage_opened, stage_same, stage_read, stage_checkable, stage_refused, stage_come, stage_reaches, come_read}
-use Rattle.segments.proofs.adding.WriteLemmas.{are_pages}
+use Rattle.segments.specs.lemmas.adding.Write.{are_pages}
 use Rattle.segments.proofs.fixed.Journal.preflight_restore.Given.{Over}
 use Rattle.segments.proofs.fixed.Journal.preflight_restore.Goals as goal
 use Rattle.blob_device.proofs.general.Results.{err_of}

@@ -5,7 +5,7 @@ use Rattle.std.proofs.Common.{◌≡◌, ◌∙◌, None, sym, ap}
 use Rattle.section_manager.specs.managing.Managed.{shown}
 use Rattle.segments.specs.FixedShown as lists
 use Rattle.segments.proofs.opened.BoundLemmas.{measures_none, measures_some, measures_err, measures_pruned, recovers_of}
-use Rattle.segments.proofs.held.Passing.{no_error}
+use Rattle.segments.specs.lemmas.held.Passing.{no_error}
 use Rattle.segments.proofs.fixed.Journal.recoverable_prefix_len_at_most.Goals as goal
 use Rattle.blob_device.proofs.general.Results.{err_of}
 

@@ -1,7 +1,7 @@
 use Rattle.std.specs.BTreeSet.{contains}
 use Rattle.std.specs.Ordering.{nat_cmp}
 use Rattle.segments.proofs.checkpoint.Restored.{restores, restores_err}
-use Rattle.segments.proofs.adding.WriteLemmas.{are_pages}
+use Rattle.segments.specs.lemmas.adding.Write.{are_pages}
 use Rattle.segments.specs.FixedShown.{shown}
 use Rattle.std.proofs.Common.{rules}
 use Rattle.segments.proofs.fixed.Journal.restored.Goals as goal

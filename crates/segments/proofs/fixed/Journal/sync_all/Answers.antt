@@ -4,7 +4,7 @@ use Rattle.section_manager.specs.contracts.sealed.PageBlobSectionBuffer.TheImpl.
 use Rattle.section_manager.specs.lemmas.Seen.{err_seen}
 use Rattle.segments.specs.FixedShown.{shown}
 use Rattle.segments.proofs.adding.SettlingEnds.{settle_failed, settled_all}
-use Rattle.segments.proofs.adding.WriteLemmas.{are_pages}
+use Rattle.segments.specs.lemmas.adding.Write.{are_pages}
 use Rattle.segments.proofs.fixed.Journal.sync_all.Goals as goal
 
 pub returns-in_err-this : goal.returns-in_err-this

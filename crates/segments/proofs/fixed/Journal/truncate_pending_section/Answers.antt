@@ -1,9 +1,9 @@
 use Rattle.section_manager.specs.contracts.sealed.PageBlobSectionBuffer.TheImpl.{ghosts}
 use Rattle.section_manager.specs.lemmas.Seen.{err_seen}
 use Rattle.segments.specs.FixedShown.{shown}
-use Rattle.segments.proofs.cutting.CutLemmas.{safe_cut}
+use Rattle.segments.specs.lemmas.adding.Write.{are_pages}
+use Rattle.segments.specs.lemmas.cutting.Cut.{safe_cut}
 use Rattle.segments.proofs.cutting.CuttingEnds.{cut_failed, cut_made}
-use Rattle.segments.proofs.adding.WriteLemmas.{are_pages}
 use Rattle.segments.proofs.fixed.Journal.truncate_pending_section.Goals as goal
 
 pub truncate_pending_section-requires-clause-can : goal.truncate_pending_section-requires-clause-can

@@ -1,10 +1,11 @@
 use Rattle.std.proofs.Common.{refl}
 use Rattle.blob_device.specs.lemmas.Moments.{always_now}
 use Rattle.segments.specs.FixedShown.{shown}
-use Rattle.segments.proofs.cutting.CutLemmas.{safe_cut}
-use Rattle.segments.proofs.held.Passing.{guard_on, guard_ok, cut_on, error_back, no_error}
+use Rattle.segments.specs.lemmas.adding.Write.{are_pages}
+use Rattle.segments.specs.lemmas.cutting.Cut.{safe_cut}
+use Rattle.segments.specs.lemmas.held.Passing.{error_back, guard_ok, guard_on, no_error}
+use Rattle.segments.proofs.held.Passing.{cut_on}
 use Rattle.segments.proofs.cutting.TailLemmas.{tail_moments, tail_journal, tail_err}
-use Rattle.segments.proofs.adding.WriteLemmas.{are_pages}
 use Rattle.segments.proofs.fixed.Journal.truncate_pending_tail.Goals as goal
 use Rattle.blob_device.proofs.general.Results.{err_of}
 

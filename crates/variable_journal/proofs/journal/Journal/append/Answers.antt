@@ -2,9 +2,9 @@ use Rattle.std.proofs.Common.{◌≡◌, ◌∙◌, Err, inl, inr, ap, arith}
 use Rattle.std.proofs.Math.Nat.{mod-one}
 use Rattle.section_manager.specs.declared.journal.Error.TheVariants.{Mem, ValueTooLarge}
 use Rattle.section_manager.specs.lemmas.Seen.{err_same}
-use Rattle.segments.proofs.adding.Adding.{error_is, mem_not_full, mem_not_pruned}
-use Rattle.segments.proofs.held.Passing.{no_error}
-use Rattle.segments.proofs.adding.WriteLemmas.{are_pages}
+use Rattle.segments.specs.lemmas.adding.Adding.{error_is, mem_not_full, mem_not_pruned}
+use Rattle.segments.specs.lemmas.adding.Write.{are_pages}
+use Rattle.segments.specs.lemmas.held.Passing.{no_error}
 use Rattle.variable_journal.specs.Shown.{shown}
 use Rattle.variable_journal.proofs.AddingLemmas.{added, below_large, not_added, refused, spelled_as}
 use Rattle.variable_journal.proofs.journal.Journal.append.Goals as goal

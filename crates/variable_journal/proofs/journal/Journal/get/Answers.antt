@@ -4,9 +4,9 @@ use Rattle.blob_device.specs.Timeline.{disk}
 use Rattle.sealed_pages.specs.Buffer.{IsSealed}
 use Rattle.sealed_pages.specs.Shown as page_blob
 use Rattle.section_manager.specs.lemmas.Seen.{err_same}
-use Rattle.segments.proofs.adding.Adding.{error_is}
-use Rattle.segments.proofs.held.Passing.{guard_on}
-use Rattle.segments.proofs.held.Sections.{holds_own, is_held}
+use Rattle.segments.specs.lemmas.adding.Adding.{error_is}
+use Rattle.segments.specs.lemmas.held.Passing.{guard_on}
+use Rattle.segments.specs.lemmas.held.Sections.{holds_own, is_held}
 use Rattle.variable_journal.specs.Shown.{config_of, shown}
 use Rattle.variable_journal.proofs.GettingLemmas.{gets_of, section_refused}
 use Rattle.variable_journal.proofs.journal.Journal.get.Goals as goal

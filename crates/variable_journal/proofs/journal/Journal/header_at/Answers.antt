@@ -5,8 +5,8 @@ use Rattle.sealed_pages.specs.Buffer.{bytes_of, size_of, IsBacked}
 use Rattle.sealed_pages.specs.Buffer as pages
 use Rattle.sealed_pages.specs.Shown as page_blob
 use Rattle.sealed_pages.specs.lemmas.Entries.{only_read_of, only_read_start}
-use Rattle.sealed_pages.proofs.memory.Holding.{fit_size}
-use Rattle.sealed_pages.proofs.looking.Looking.{unchanged_start}
+use Rattle.sealed_pages.specs.lemmas.looking.Looking.{unchanged_start}
+use Rattle.sealed_pages.specs.lemmas.memory.Holding.{fit_size}
 use Rattle.section_manager.specs.Raised.{raised}
 use Rattle.variable_journal.specs.Reading.{HasHeader, Measures}
 use Rattle.variable_journal.proofs.LengthLemmas.{past_of_long}

@@ -5,8 +5,8 @@ use Rattle.sealed_pages.specs.Buffer as pages
 use Rattle.sealed_pages.specs.Buffer.{IsBacked}
 use Rattle.sealed_pages.specs.Shown as page_blob
 use Rattle.sealed_pages.specs.lemmas.Entries.{only_read_of, only_read_then}
-use Rattle.sealed_pages.proofs.memory.Holding.{fit_size}
-use Rattle.sealed_pages.proofs.looking.Looking.{unchanged_now, unchanged_then}
+use Rattle.sealed_pages.specs.lemmas.looking.Looking.{unchanged_now, unchanged_then}
+use Rattle.sealed_pages.specs.lemmas.memory.Holding.{fit_size}
 use Rattle.section_manager.specs.Raised.{raised, raised_codec}
 use Rattle.variable_journal.specs.Reading.{FrameOf, HasHeader}
 use Rattle.variable_journal.proofs.ReadingLemmas.{ended, found, inside_of, item_found, item_there, item_why, page_why}

@@ -4,7 +4,7 @@ use Rattle.std.specs.List.{Contains}
 use Rattle.blob_device.specs.Timeline.{disk}
 use Rattle.section_manager.specs.contracts.sealed.PageBlobSectionBuffer.TheImpl.{ghosts}
 use Rattle.segments.specs.FixedShown as bytes
-use Rattle.segments.proofs.held.Passing.{guard_ok, guard_on, pruned_on}
+use Rattle.segments.specs.lemmas.held.Passing.{guard_ok, guard_on, pruned_on}
 use Rattle.variable_journal.specs.Shown.{shown}
 use Rattle.variable_journal.proofs.SectionLemmas.{framed_again, synced_bytes}
 use Rattle.variable_journal.proofs.journal.Journal.sync.Goals as goal

@@ -1,7 +1,7 @@
 use Rattle.std.proofs.Common.{arith}
 use Rattle.archives.specs.Config.{IsValid}
 use Rattle.archives.specs.Shown.{setup_for}
-use Rattle.paired.proofs.reconcile.Entries.{markers_readable}
+use Rattle.paired.specs.lemmas.reconcile.Entries.{markers_readable}
 use Rattle.archive_service.proofs.OpeningAnswers.{open_answers}
 use Rattle.archive_service.proofs.StoreLemmas.{opens_with}
 use Rattle.archive_service.proofs.store.prunable.OpenableArchiveStore.open.Goals as goal

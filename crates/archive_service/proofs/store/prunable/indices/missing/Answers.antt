@@ -6,8 +6,9 @@ use Rattle.archives.specs.declared.commands.Reply.TheVariants as said
 use Rattle.ordinal_store.specs.Numbers.{AreMissing}
 use Rattle.archive_service.specs.declared.store.openable.Openable.TheVariants.{Open}
 use Rattle.archive_service.proofs.LookAnswers.{indices_given, missing_given, none_missing}
-use Rattle.archive_service.proofs.StoreLemmas.{answers_with, given_by, seen_so}
+use Rattle.archive_service.proofs.StoreLemmas.{given_by, seen_so}
 use Rattle.archive_service.proofs.store.prunable.indices.missing.Goals as goal
+use Rattle.archive_service.specs.lemmas.Store.{answers_with}
 
 -- none were asked for
 pub returns-then-count-eq0 : goal.returns-then-count-eq0

@@ -4,8 +4,9 @@ use Rattle.archives.specs.Putting.{Often}
 use Rattle.archives.specs.declared.commands.Reply.TheVariants.{Done}
 use Rattle.archive_service.specs.declared.store.openable.Openable.TheVariants.{Open}
 use Rattle.archive_service.proofs.PutSyncAnswers.{put_sync_answers}
-use Rattle.archive_service.proofs.StoreLemmas.{answers_with, given_by, seen_so}
+use Rattle.archive_service.proofs.StoreLemmas.{given_by, seen_so}
 use Rattle.archive_service.proofs.store.prunable.multi.put_sync.Goals as goal
+use Rattle.archive_service.specs.lemmas.Store.{answers_with}
 
 pub returns : goal.returns
 returns g c =

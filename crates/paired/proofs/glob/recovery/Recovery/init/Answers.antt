@@ -5,7 +5,7 @@ use Rattle.section_manager.specs.managing.Managed.{shown}
 use Rattle.section_manager.specs.Sections.{section_key}
 use Rattle.section_manager.specs.unsealed.Buffer.{content_of}
 use Rattle.paired.proofs.CallLemmas.{held_some}
-use Rattle.paired.proofs.GlobLemmas.{held_bytes}
+use Rattle.paired.specs.lemmas.Glob.{held_bytes}
 use Rattle.paired.proofs.StepLemmas.{opened_glob, opened_settled, no_leftover}
 use Rattle.paired.proofs.glob.recovery.Recovery.init.Goals as goal
 

@@ -3,7 +3,7 @@ use Rattle.blob_device.specs.lemmas.Moments.{always_now}
 use Rattle.section_manager.specs.managing.Managed.{shown}
 use Rattle.paired.proofs.CallLemmas.{none_each, cut_glob, one_bytes, one_settled, one_all}
 use Rattle.paired.proofs.FailLemmas.{undamaged}
-use Rattle.paired.proofs.GlobLemmas.{other_bytes}
+use Rattle.paired.specs.lemmas.Glob.{other_bytes}
 use Rattle.paired.proofs.StepLemmas.{one_moments}
 use Rattle.paired.proofs.glob.recovery.Recovery.truncate_section.Goals as goal
 use Rattle.blob_device.proofs.general.Results.{err_of}

@@ -4,14 +4,14 @@ use Rattle.std.specs.Option.{option_copied}
 use Rattle.blob_device.specs.Timeline.{disk}
 use Rattle.blob_device.specs.Disk.{Key}
 use Rattle.sealed_pages.specs.Entries.{ReadsAtMost}
-use Rattle.sealed_pages.proofs.looking.Looking.{unchanged_now}
+use Rattle.paired.specs.lemmas.Glob.{glob_read}
+use Rattle.paired.specs.lemmas.Kept.{sound_parts}
+use Rattle.sealed_pages.specs.lemmas.looking.Looking.{unchanged_now}
 use Rattle.section_manager.specs.managing.Managed.{shown}
 use Rattle.paired.specs.Frames.{IsSealed}
 use Rattle.paired.specs.glob.Sections.{section_bytes}
-use Rattle.paired.proofs.GlobLemmas.{glob_read}
 use Rattle.section_manager.specs.unsealed.Buffer.{count_of}
 use Rattle.paired.specs.Records.{is_sound}
-use Rattle.paired.proofs.KeptLemmas.{sound_parts}
 use Rattle.paired.proofs.SoundLemmas.{sound_verdict}
 use Rattle.paired.proofs.ReadLemmas.{own_key, as_long, bytes_read, frame_inside, refused_so, taken_so, verdict}
 use Rattle.paired.proofs.glob.recovery.Recovery.verify.Goals as goal

@@ -11,7 +11,10 @@ use Rattle.section_manager.specs.declared.journal.Error.TheVariants.{Codec, Corr
 use Rattle.section_manager.specs.Sections.{section_key, IsHeld}
 use Rattle.segments.specs.FixedReplay.{IsDrained}
 use Rattle.segments.specs.FixedShown as fixed
-use Rattle.segments.proofs.adding.WriteLemmas.{are_pages}
+use Rattle.paired.specs.lemmas.pair.Synced.{page_setting}
+use Rattle.paired.specs.lemmas.reconcile.Entries.{drained_from, markers_readable, run_here}
+use Rattle.paired.specs.lemmas.reconcile.Start.{back_journal, back_proven, ends_of, opening}
+use Rattle.segments.specs.lemmas.adding.Write.{are_pages}
 use Rattle.paired.specs.Crashes.{IsCopy}
 use Rattle.paired.specs.PairShown.{shown}
 use Rattle.paired.specs.glob.Sections.{section_size}
@@ -21,8 +24,7 @@ use Rattle.paired.specs.ReplayShown.{run_of}
 use Rattle.paired.specs.Replaying.{pair_of}
 use Rattle.paired.specs.sighted.Shown as tracked
 use Rattle.paired.proofs.pair.Failing.{no_error, not_both}
-use Rattle.paired.proofs.reconcile.Start.{opening, back_journal, back_proven, ends_of}
-use Rattle.paired.proofs.pair.Synced.{made, page_setting}
+use Rattle.paired.proofs.pair.Synced.{made}
 use Rattle.paired.specs.Pair.{IsMoving}
 use Rattle.paired.proofs.reconcile.Left.{Stage, Left, left_of, left_before, no_stage}
 use Rattle.paired.proofs.reconcile.Stages.{records_stage, values_stage, removing_stage}
@@ -30,7 +32,7 @@ use Rattle.paired.proofs.reconcile.Joints.{cut_joint, cut_values_same, trim_join
 use Rattle.paired.proofs.reconcile.Pair.{pair_with, reconciled_of}
 use Rattle.paired.proofs.reconcile.Result.{pair_is, moves_given, given_moves, stage_as, newer_as, kept_result, counts_result, settled_result, index_result}
 use Rattle.paired.proofs.reconcile.Errors.{if_err, no_ok, handed_back, handed_on, on_error, failed_on, memory_on, damaged_on, values_end, replay_or_not, failed_replay, failed_full, failed_codec, failed_corrupt, failed_damage, failed_cause, failed_complete, damaged_replay, damaged_full, damaged_codec, damaged_corrupt, damaged_cause, damaged_complete, marks_complete, marks_cause, marked_no_replay, marked_no_codec, marked_no_corrupt, marked_no_damage}
-use Rattle.paired.proofs.reconcile.Entries.{run_here, markers_readable, drained_of, drained_from, as_back, as_cut, as_trim, as_removed, cut_entry, trim_entry, removed_entry, cut_reads, cut_unread, trim_reads, trim_unread, leaves_reads, doomed_of, notes_of, noted_same}
+use Rattle.paired.proofs.reconcile.Entries.{drained_of, as_back, as_cut, as_trim, as_removed, cut_entry, trim_entry, removed_entry, cut_reads, cut_unread, trim_reads, trim_unread, leaves_reads, doomed_of, notes_of, noted_same}
 use Rattle.paired.proofs.oversized.replaying.Replay.finish_tracked.Goals as goal
 use Rattle.paired.proofs.oversized.replaying.Replay.finish_tracked.Goals.{then-not-self-via-then-not-self, then-not-self-via-else-not-self+then-self}
 use Rattle.blob_device.proofs.general.Lists.{contains_or_not}

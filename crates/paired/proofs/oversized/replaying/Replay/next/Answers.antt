@@ -5,17 +5,19 @@ use Rattle.section_manager.specs.contracts.sealed.PageBlobSectionBuffer.TheImpl 
 use Rattle.section_manager.specs.Sections.{key_of}
 use Rattle.segments.specs.FixedReplay.{SameWalk}
 use Rattle.segments.specs.FixedWalking.{walk_of}
-use Rattle.segments.proofs.adding.WriteLemmas.{are_pages}
+use Rattle.paired.specs.lemmas.next.Clauses.{Clauses}
+use Rattle.paired.specs.lemmas.next.Glue.{here_run, loop_then, parts_start, run_moved, run_then, values_unfloored}
+use Rattle.paired.specs.lemmas.next.Going.{running_start}
+use Rattle.paired.specs.lemmas.next.Running.{moved}
+use Rattle.paired.specs.lemmas.pair.Synced.{page_setting}
+use Rattle.segments.specs.lemmas.adding.Write.{are_pages}
 use Rattle.paired.specs.Replaying.{Run}
 use Rattle.paired.specs.ReplayShown.{limits_of, run_of}
-use Rattle.paired.proofs.next.Answers.{Clauses}
 use Rattle.paired.proofs.next.Clauses.{no_clauses, some_clauses, err_clauses}
-use Rattle.paired.proofs.next.Glue.{here_run, run_moved, run_then, loop_then, values_unfloored, parts_start, glob_as, config_as, ends_as, section_as, sorts_as, open_there}
-use Rattle.paired.proofs.next.Going.{running_start, running_on, all_went, next_glob}
-use Rattle.paired.proofs.next.Running.{moved}
+use Rattle.paired.proofs.next.Glue.{glob_as, config_as, ends_as, section_as, sorts_as, open_there}
+use Rattle.paired.proofs.next.Going.{running_on, all_went, next_glob}
 use Rattle.paired.proofs.next.Says.{Says, gave_going, ended_on}
 use Rattle.paired.proofs.next.Turn.{Sorted}
-use Rattle.paired.proofs.pair.Synced.{page_setting}
 use Rattle.paired.proofs.oversized.replaying.Replay.next.Given as given
 use Rattle.paired.proofs.oversized.replaying.Replay.next.Goals as goal
 

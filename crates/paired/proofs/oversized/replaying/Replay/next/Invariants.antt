@@ -3,9 +3,9 @@ use Rattle.section_manager.specs.contracts.sealed.PageBlobSectionBuffer.TheImpl 
 use Rattle.segments.specs.FixedStepping.{way_of}
 use Rattle.segments.specs.FixedWalking.{walk_of}
 use Rattle.paired.specs.ReplayShown.{limits_of, run_of}
-use Rattle.paired.proofs.next.Glue.{SameParts}
-use Rattle.paired.proofs.next.Going.{Running}
-use Rattle.paired.proofs.pair.Synced.{page_setting}
+use Rattle.paired.specs.lemmas.next.Glue.{SameParts}
+use Rattle.paired.specs.lemmas.next.Going.{Running}
+use Rattle.paired.specs.lemmas.pair.Synced.{page_setting}
 use Rattle.paired.proofs.oversized.replaying.Replay.next.Given as goal
 
 abbrev pub invariant-records : goal.invariant-records

@@ -4,7 +4,7 @@ use Rattle.archives.specs.Commands.{Reopen}
 use Rattle.archives.specs.Machine.{Step, asked, replied}
 use Rattle.archives.specs.plain.Machine.{state_of}
 use Rattle.archives.specs.Replies as reply
-use Rattle.archive_service.proofs.StoreLemmas.{answers_to}
+use Rattle.archive_service.specs.lemmas.Store.{answers_to}
 use Rattle.scenarios.specs.ListedKind.{listed_serving}
 use Rattle.scenarios.proofs.ListedLemmas.{listed_answers, listed_step}
 use Rattle.scenarios.proofs.listed.serving.ListedStore.answer.Goals as goal

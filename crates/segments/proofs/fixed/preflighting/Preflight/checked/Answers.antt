@@ -6,8 +6,8 @@ use Rattle.blob_device.specs.Timeline.{disk}
 use Rattle.segments.specs.FixedFloors.{Floors, IsAdoptedOver, journal_of, preflight_shown}
 use Rattle.segments.proofs.checkpoint.ChecksEnds.{looks_own, marker_empty, marker_long, marker_missing, marker_refuses, marker_takes}
 use Rattle.segments.proofs.opened.FloorLemmas.{whole_items}
-use Rattle.segments.proofs.held.Sections.{is_held}
-use Rattle.segments.proofs.adding.WriteLemmas.{are_pages}
+use Rattle.segments.specs.lemmas.adding.Write.{are_pages}
+use Rattle.segments.specs.lemmas.held.Sections.{is_held}
 use Rattle.segments.proofs.fixed.preflighting.Preflight.checked.Goals as goal
 use Rattle.blob_device.proofs.general.Results.{err_of}
 

@@ -5,7 +5,7 @@ use Rattle.segments.specs.FixedFloors.{preflight_shown, journal_of}
 use Rattle.segments.specs.FixedLists.{section_size}
 use Rattle.segments.proofs.opened.BoundLemmas.{size_is}
 use Rattle.segments.proofs.checkpoint.Checking.{looks_partial, whole_looks, adopted_here, named_below, passes_below, boundary_earlier, whole_count, size_small}
-use Rattle.segments.proofs.adding.WriteLemmas.{are_pages}
+use Rattle.segments.specs.lemmas.adding.Write.{are_pages}
 use Rattle.segments.proofs.fixed.preflighting.Preflight.checked_whole.Goals as goal
 use Rattle.blob_device.proofs.general.Results.{err_of}
 

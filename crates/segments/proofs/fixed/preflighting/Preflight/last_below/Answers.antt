@@ -4,7 +4,7 @@ use Rattle.blob_device.specs.Disk.{Disk}
 use Rattle.sealed_pages.specs.Buffer.{key_of}
 use Rattle.sealed_pages.specs.Shown.{shown}
 use Rattle.sealed_pages.specs.Reads.{IsShort, PassesSize}
-use Rattle.sealed_pages.proofs.looking.Looking.{unchanged_now, unchanged_start}
+use Rattle.sealed_pages.specs.lemmas.looking.Looking.{unchanged_now, unchanged_start}
 use Rattle.segments.proofs.checkpoint.ChecksEnds.{looks_coded, looks_failed, looks_got, looks_since, read_failed_last}
 use Rattle.segments.proofs.fixed.preflighting.Preflight.last_below.Goals as goal
 use Rattle.blob_device.proofs.general.Results.{err_of}

@@ -5,7 +5,7 @@ use Rattle.std.proofs.lemmas.Result.{err_from_is_err_and}
 use Rattle.blob_device.specs.Timeline.{disk}
 use Rattle.sealed_pages.specs.Readers.{Reader, reading, IsReplayOf}
 use Rattle.sealed_pages.specs.Shown as page_blob
-use Rattle.sealed_pages.proofs.UnrecoveredLemmas.{adopted_backed}
+use Rattle.sealed_pages.specs.lemmas.Unrecovered.{adopted_backed}
 use Rattle.segments.specs.FixedReplay.{Walk, first_of}
 use Rattle.segments.specs.FixedStepping.{OnlySections}
 use Rattle.segments.specs.FixedWalking.{walk_of}

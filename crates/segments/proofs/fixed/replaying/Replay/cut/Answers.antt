@@ -3,12 +3,12 @@ use Rattle.std.specs.Prelude.{ℕ, ◌*◌}
 use Rattle.std.proofs.Common.{inl, refl, sym, ◌∙◌, ap, subst, arith}
 use Rattle.blob_device.specs.Disk.{Key}
 use Rattle.sealed_pages.specs.Entries.{IsOpenAt}
-use Rattle.sealed_pages.proofs.memory.Holding.{fit_size}
+use Rattle.sealed_pages.specs.lemmas.memory.Holding.{fit_size}
+use Rattle.section_manager.specs.lemmas.sections.Over.{same_key}
+use Rattle.segments.specs.lemmas.adding.Write.{are_pages}
 use Rattle.section_manager.specs.managing.Managed as manager
-use Rattle.section_manager.proofs.sections.OverLemmas.{same_key}
 use Rattle.segments.specs.FixedWalking.{walk_of}
 use Rattle.segments.proofs.held.Lending.{cut_untaken, cut_failed, cut_refused, cut_done}
-use Rattle.segments.proofs.adding.WriteLemmas.{are_pages}
 use Rattle.segments.proofs.fixed.replaying.Replay.cut.Goals as goal
 use Rattle.blob_device.proofs.general.Options.{some_of}
 use Rattle.blob_device.proofs.general.Results.{err_of}

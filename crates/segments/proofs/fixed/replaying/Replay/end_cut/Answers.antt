@@ -3,7 +3,7 @@ use Rattle.std.specs.Prelude.{◌≡◌, Err}
 use Rattle.std.proofs.Common.{refl, sym, ◌∙◌, arith}
 use Rattle.std.proofs.lemmas.Result.{err_from_is_err_and}
 use Rattle.blob_device.specs.Timeline.{disk}
-use Rattle.sealed_pages.proofs.memory.Holding.{fit_size}
+use Rattle.sealed_pages.specs.lemmas.memory.Holding.{fit_size}
 use Rattle.section_manager.specs.declared.journal.Error.TheVariants.{Corruption, ItemOutOfRange}
 use Rattle.segments.specs.FixedWalking.{walk_of, place_of}
 use Rattle.segments.proofs.replay.Cutting.{ends_below, cut_failed, cut_ended, cut_refused, cut_within, cut_prefix}

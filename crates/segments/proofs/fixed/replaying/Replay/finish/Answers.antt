@@ -3,9 +3,10 @@ use Rattle.std.proofs.Common.{inl, inr, refl}
 use Rattle.segments.specs.FixedShown.{shown}
 use Rattle.segments.specs.FixedWalking.{walk_of}
 use Rattle.segments.proofs.replay.Given.{all_given}
-use Rattle.segments.proofs.replay.Beginning.{finished_sealed, finished_start, owed_before, finished_held, finished_settled, finished_unopened}
+use Rattle.segments.proofs.replay.Beginning.{finished_start, owed_before, finished_held, finished_settled, finished_unopened}
 use Rattle.segments.proofs.fixed.replaying.Replay.finish.Goals as goal
 use Rattle.segments.proofs.fixed.replaying.Replay.finish.Goals.{then-self-via-then-self, then-self-via-else-self+then-not-is_drained}
+use Rattle.segments.specs.lemmas.replay.Beginning.{finished_sealed}
 
 pub returns : goal.returns
 returns g c = record {

@@ -5,7 +5,7 @@ use Rattle.section_manager.specs.contracts.sealed.PageBlobSectionBuffer.TheImpl.
 use Rattle.segments.specs.FixedWalking.{walk_of}
 use Rattle.segments.proofs.replay.NextEnds.{advances_none, advances_item, advances_err}
 use Rattle.segments.proofs.replay.Running.{running_start, running_on}
-use Rattle.segments.proofs.adding.WriteLemmas.{are_pages}
+use Rattle.segments.specs.lemmas.adding.Write.{are_pages}
 use Rattle.segments.proofs.fixed.replaying.Replay.next.Goals as goal
 
 not_true : (x : Bool) → (x ≡ true → ⊥) → x ≡ false

@@ -4,10 +4,10 @@ use Rattle.blob_device.specs.Disk.{Key}
 use Rattle.sealed_pages.specs.Entries.{IsOpenAt}
 use Rattle.sealed_pages.specs.Readers.{reading}
 use Rattle.section_manager.specs.managing.Managed as manager
-use Rattle.section_manager.proofs.sections.OverLemmas.{same_key}
+use Rattle.section_manager.specs.lemmas.sections.Over.{same_key}
+use Rattle.segments.specs.lemmas.adding.Write.{are_pages}
 use Rattle.segments.specs.FixedWalking.{walk_of}
 use Rattle.segments.proofs.held.LentReaders.{reader_untaken, reader_failed, reader_refused, reader_done}
-use Rattle.segments.proofs.adding.WriteLemmas.{are_pages}
 use Rattle.segments.proofs.fixed.replaying.Replay.open_reader.Goals as goal
 use Rattle.blob_device.proofs.general.Options.{some_of}
 use Rattle.blob_device.proofs.general.Results.{err_of}

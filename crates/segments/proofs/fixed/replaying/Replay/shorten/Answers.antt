@@ -7,7 +7,7 @@ use Rattle.section_manager.specs.declared.journal.Error.{Error}
 use Rattle.segments.specs.FixedWalking.{walk_of}
 use Rattle.segments.proofs.checkpoint.Checking.{count_as}
 use Rattle.segments.proofs.replay.ErrorSteps.{cut_as}
-use Rattle.segments.proofs.held.Passing.{no_error}
+use Rattle.segments.specs.lemmas.held.Passing.{no_error}
 use Rattle.segments.proofs.replay.Shortening.{cut_moments, cut_to, walk_lost, walk_shortened, within_here, within_prefix}
 use Rattle.segments.proofs.fixed.replaying.Replay.shorten.Goals as goal
 use Rattle.blob_device.proofs.general.Options.{some_of}

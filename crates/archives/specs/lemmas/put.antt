@@ -1,0 +1,4 @@
+pub mod Lemmas
+pub mod Rows
+pub mod Stands
+pub mod Sync

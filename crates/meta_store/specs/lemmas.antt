@@ -1,0 +1,12 @@
+pub mod Bytes
+pub mod Choices
+pub mod Forms
+pub mod Inserting
+pub mod Leaving
+pub mod Readings
+pub mod Reopening
+pub mod Sealing
+pub mod Sides
+pub mod Syncing
+pub mod Texts
+pub mod Uses

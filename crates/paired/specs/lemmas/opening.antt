@@ -1,0 +1,5 @@
+pub mod Ends
+pub mod Laws
+pub mod Phases
+pub mod Start
+pub mod StartRefusals

@@ -1,0 +1,3 @@
+pub mod Adopt
+pub mod Adopting
+pub mod Repairing

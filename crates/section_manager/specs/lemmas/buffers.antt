@@ -1,0 +1,3 @@
+pub mod NothingSealed
+pub mod SealedCalls
+pub mod UnsealedCalls

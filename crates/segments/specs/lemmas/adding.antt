@@ -1,0 +1,4 @@
+pub mod Adding
+pub mod Append
+pub mod Had
+pub mod Write

@@ -1,0 +1,5 @@
+pub mod Beginning
+pub mod Kept
+pub mod Reading
+pub mod Walks
+pub mod WalksOn
