@@ -10,7 +10,11 @@ use Rattle.blob_device.specs.lemmas.Moments.{always_now, only_start, only_on, ok
 use Rattle.blob_device.specs.Guards.{Guards, Sealed, Avoids, Makes}
 use Rattle.blob_device.specs.Lengths.{least_push, length-resized, length-written}
 use Rattle.blob_device.specs.Places.{resized_below, written_out}
-use Rattle.blob_device.proofs.general.Lists.{all_push}
+
+-- what holds of each content of a list, and of one more
+all_more : (Q : List ℕ → Type 0) (cs : List (List ℕ)) (c : List ℕ) → AllByRecursion Q cs → Q c → AllByRecursion Q (cs ++ c ∷ [])
+all_more Q [] c all here = (here, tt)
+all_more Q (d ∷ cs) c all here = (all.0, all_more Q cs c all.1 here)
 
 pub guards_settled : (R : ℕ → Type 0) (v : ℕ → ℕ) (c : List ℕ) → ((i : ℕ) → R i → i < length c) → ((i : ℕ) → R i → get_or c i 0 ≡ v i) → Guards R v (settled_at c)
 guards_settled R v c long same = record { there = refl; sure = refl; short = long; long = long; outside = λ i r. tt; same = same }
@@ -79,8 +83,8 @@ module _ (R : ℕ → Type 0) (v : ℕ → ℕ) (b : Blob) (g : Guards R v b) wh
   module _ (Q : List ℕ → Type 0) (all : AllByRecursion Q (past b)) where
     pub all_during : (change : Change) → Makes Q b.content change → AllByRecursion Q (past (during change b))
     all_during Make makes = subst (λ (d : Blob). AllByRecursion Q (past d)) (sym made) all
-    all_during (Write at bytes) makes = (all.0, all_push Q b.since (written b.content at bytes) all.1 makes)
-    all_during (Resize n) makes = (all.0, all_push Q b.since (resized b.content n) all.1 makes)
+    all_during (Write at bytes) makes = (all.0, all_more Q b.since (written b.content at bytes) all.1 makes)
+    all_during (Resize n) makes = (all.0, all_more Q b.since (resized b.content n) all.1 makes)
     all_during Settle makes = all
     all_during Remove makes = absurd makes
     all_during Look makes = all
