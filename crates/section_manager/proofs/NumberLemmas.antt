@@ -2,15 +2,13 @@
 use Rattle.std.specs.Prelude.{◌≡◌, ℕ, ◌^◌, ◌<◌, List, [], length, map}
 use Rattle.std.specs.List.{Contains}
 use Rattle.std.specs.Int.{w64, to_be_bytes}
-use Rattle.std.proofs.Common.{sym, ◌∙◌, ap, subst, get_or, arith, rules}
+use Rattle.std.proofs.Common.{sym, ◌∙◌, ap, subst, get_or, arith}
 use Rattle.std.proofs.lemmas.List.{get_or-map, length-map}
 use Rattle.std.proofs.lemmas.List.Elements.{Contains-get_or}
 use Rattle.std.proofs.lemmas.Grind.{get_or_default_zero}
 use Rattle.blob_device.specs.Disk.{Key}
 use Rattle.section_manager.specs.lemmas.Keys.{key_injective}
-
-pub length-number_name : (n : ℕ) → length (to_be_bytes w64 n) ≡ 8
-length-number_name n = search rules
+use Rattle.section_manager.specs.lemmas.Number.{length-number_name}
 
 -- what holds at each place holds of each number that is listed
 pub of_listed : (P : ℕ → Type 0) (numbers : List ℕ) (s : ℕ) → ((k : ℕ) → k < length numbers → P (get_or numbers k 0)) → Contains numbers s → P s

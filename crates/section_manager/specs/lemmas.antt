@@ -1,5 +1,6 @@
 pub mod Init
 pub mod Keys
+pub mod Number
 pub mod Seen
 pub mod Walk
 pub mod buffers

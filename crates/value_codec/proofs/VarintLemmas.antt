@@ -8,7 +8,7 @@ use Rattle.std.proofs.Math.Pow.{pow_mono}
 use Rattle.std.proofs.Math.Seq.{take-suc, take-add, take-append_seam}
 use Rattle.value_codec.specs.declared.codec.Error.{Error}
 use Rattle.value_codec.specs.Varint.{IsBase128, IsVarint, varint, BeginsWithVarint, BeginsWithNone, IsCutShort, IsWhyNone, ReadsBack}
-use Rattle.value_codec.specs.lemmas.Varint.{cut_none, joined, one_prefix, parted, step, varint_only, varint_spells}
+use Rattle.value_codec.specs.lemmas.Varint.{cut_none, joined, one_prefix, parted, step, varint_spells}
 
 -- each byte asks for one more
 abbrev pub GoesOn : List ℕ → Type 0
@@ -86,13 +86,6 @@ shortest (p ∷ r ∷ a) (q ∷ s ∷ b) n left right =
 
 pub varint_shortest : (bytes : List ℕ) (n : ℕ) → IsBase128 bytes n → length (varint n) ≤ length bytes
 varint_shortest bytes n spelled = shortest (varint n) bytes n (varint_spells n) spelled
-
-pub varint_short : (n : ℕ) → n < 128 → varint n ≡ n ∷ []
-varint_short n short = sym (varint_only (n ∷ []) n (short, refl))
-
-pub varint_long : (n : ℕ) → 128 ≤ n → varint n ≡ (128 + n % 128) ∷ varint (n / 128)
-varint_long n long =
-    sym (varint_only _ n (joined (128 + n % 128) (varint (n / 128)) n (n / 128) (omega arith) (omega arith) (omega arith) (omega arith) (varint_spells (n / 128))))
 
 -- the first bytes go on, and their low seven bits and the room that is left are these
 pub record IsReadTo (bits : ℕ) (bytes : List ℕ) (at value room : ℕ) : Type 0 where

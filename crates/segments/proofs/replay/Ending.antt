@@ -32,10 +32,6 @@ pub next_back : (s : ℕ) (o : Option ℕ) → IsNext s o → (t : ℕ) → IsSo
 next_back s None is t h = absurd h
 next_back s (Some n) is t h = elim is [ inl e ↦ (let at : n ≡ s + 1 = cc e in omega (arith, h, at)) | inr nil ↦ absurd (cc nil.0) ]
 
-pub ahead_from : (o : Option ℕ) (s t : ℕ) → s ≤ t → IsSomeAnd o (λ n. n ≤ s) → IsSomeAnd o (λ n. n ≤ t)
-ahead_from None s t le h = h
-ahead_from (Some n) s t le h = omega (arith, le, h)
-
 word_is : word ≡ 2 ^ 64
 unfolding word
 word_is = refl

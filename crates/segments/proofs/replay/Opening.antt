@@ -19,6 +19,7 @@ use Rattle.sealed_pages.specs.Unrecovered.{IsUnrecovered, IsAdopted, HasPrefix, 
 use Rattle.sealed_pages.specs.lemmas.Unrecovered.{prefix_leaves}
 use Rattle.sealed_pages.specs.lemmas.looking.Replay.{covered_none}
 use Rattle.sealed_pages.specs.lemmas.memory.Holding.{fit_size}
+use Rattle.segments.specs.lemmas.replay.Ending.{ahead_from}
 use Rattle.segments.specs.lemmas.replay.Walks.{IsBehind, IsReached, MayCut, MayFlush, MayPrefix, first_same, held_back, held_on, kept_other, key_new, later_one}
 use Rattle.segments.specs.lemmas.replay.WalksOn.{IsKnownAgain, moments_of, replaying_here, replaying_start}
 use Rattle.value_codec.specs.declared.codec.Error as codec
@@ -32,7 +33,7 @@ use Rattle.segments.specs.FixedLists.{size_held, section_size, IsProven}
 use Rattle.segments.specs.FixedReplay.{Place, Walk, IsAhead, IsIn, IsReadWhole, IsLeft, IsSameOrCut, HasSameBytes, IsWalk, StaysStill, Replaying, StandsIn, ReadsIn, kept_of, kept_bytes, first_of}
 use Rattle.segments.specs.FixedStepping.{reads_left, way_of, sections_ahead, bytes_ahead, OnlySections, Touches, IsFlushed, BeginsOver, Steps}
 use Rattle.segments.proofs.replay.Counts.{count_here, count_ahead}
-use Rattle.segments.proofs.replay.Ending.{IsNext, next_after, next_from, ahead_from, next_back, fewer_ahead, nearer_begun}
+use Rattle.segments.proofs.replay.Ending.{IsNext, next_after, next_from, next_back, fewer_ahead, nearer_begun}
 use Rattle.segments.proofs.replay.Reading.{here}
 use Rattle.segments.proofs.replay.ErrorSteps.{failed_other, failed_sound, failed_not_codec}
 use Rattle.segments.specs.lemmas.FixedOwed.{same_items}

@@ -23,6 +23,7 @@ use Rattle.sealed_pages.specs.SealedPrefix.{sealed_prefix, data_from}
 use Rattle.sealed_pages.specs.Unrecovered.{IsAdopted}
 use Rattle.sealed_pages.specs.lemmas.looking.Replay.{covered_rest, data_drop}
 use Rattle.sealed_pages.specs.lemmas.memory.Holding.{bytes_length}
+use Rattle.segments.specs.lemmas.replay.Ending.{ahead_from}
 use Rattle.segments.specs.lemmas.replay.Kept.{covered_length, covered_on, flushed_data, item_kept, prefix_data}
 use Rattle.segments.specs.lemmas.replay.Walks.{IsBehind, IsReached, left_later, same_bytes}
 use Rattle.segments.specs.lemmas.replay.WalksOn.{replaying_start}
@@ -42,7 +43,6 @@ use Rattle.segments.specs.FixedLists.{section_size}
 use Rattle.segments.specs.FixedReplay.{Place, Walk, IsAhead, IsIn, IsReadWhole, IsLeft, SameWalk, IsWalk, WalksOver, StandsBefore, KeepsItems, IsFromCovered, Gives, Refuses, IsEndedAt, Stops, Replaying, LeavesNoMore, EndsBelow, EndsDamaged, StandsIn, ReadsIn, kept_of, kept_bytes, first_of}
 use Rattle.segments.specs.FixedStepping.{standing, after_item, bytes_ahead, way_of, reads_left, ReadsOnce, GoesOn, Carries, EndsAt, Steps}
 use Rattle.segments.proofs.replay.Counts.{count_here, count_apart, count_same}
-use Rattle.segments.proofs.replay.Ending.{ahead_from}
 use Rattle.segments.specs.lemmas.FixedOwed.{same_items, same_or_cut}
 use Rattle.segments.proofs.replay.Stopping.{ended_back, ended_here}
 use Rattle.segments.proofs.replay.Steps.{Called, Answered, call_stopped, call_failed, call_ended, call_refused}

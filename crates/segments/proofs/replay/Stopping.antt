@@ -6,7 +6,7 @@ use Rattle.blob_device.specs.Disk.{Disk}
 use Rattle.sealed_pages.specs.declared.page_blob.PageBlob.{PageBlob}
 use Rattle.segments.specs.FixedReplay.{Place, Walk, IsAhead, IsLeft, IsEndedAt}
 use Rattle.segments.specs.FixedStepping.{standing, failing}
-use Rattle.segments.proofs.replay.Ending.{ahead_from}
+use Rattle.segments.specs.lemmas.replay.Ending.{ahead_from}
 use Rattle.blob_device.proofs.general.Options.{none_in}
 
 module _ {F S : Type 0} {gs : _} (seal : List ℕ → ℕ) (size : ℕ) where

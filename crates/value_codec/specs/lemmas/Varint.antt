@@ -88,6 +88,13 @@ at_most (p ∷ r ∷ a) (suc k) n spelled below =
 pub varint_at_most : (k n : ℕ) → n < 2 ^ (7 * suc k) → length (varint n) ≤ suc k
 varint_at_most k n below = at_most (varint n) k n (varint_spells n) below
 
+pub varint_short : (n : ℕ) → n < 128 → varint n ≡ n ∷ []
+varint_short n short = sym (varint_only (n ∷ []) n (short, refl))
+
+pub varint_long : (n : ℕ) → 128 ≤ n → varint n ≡ (128 + n % 128) ∷ varint (n / 128)
+varint_long n long =
+    sym (varint_only _ n (joined (128 + n % 128) (varint (n / 128)) n (n / 128) (omega arith) (omega arith) (omega arith) (omega arith) (varint_spells (n / 128))))
+
 -- bytes that all go on begin with no varint
 pub cut_none : (bytes : List ℕ) (n len : ℕ) → All (λ b. 128 ≤ b) bytes → IsVarint (take len bytes) n → ⊥
 cut_none [] n zero on spelled = spelled

@@ -1,8 +1,9 @@
 use Rattle.std.proofs.Common.{◌≡◌, ℕ, ◌+◌, ◌/◌, ◌%◌, ◌<◌, List, ◌∷◌, [], ◌++◌, length, take, set, length-set, add-one, append_assoc, arith, ap, sym, ◌∙◌}
 use Rattle.std.proofs.Math.Seq.{take-suc-set}
 use Rattle.value_codec.specs.Varint.{varint}
-use Rattle.value_codec.proofs.VarintLemmas.{varint_short, varint_long, less_room, room_below}
+use Rattle.value_codec.proofs.VarintLemmas.{less_room, room_below}
 use Rattle.value_codec.proofs.varint.write_varint64.Goals as goal
+use Rattle.value_codec.specs.lemmas.Varint.{varint_long, varint_short}
 
 -- one more byte behind the first ones
 stored : (bytes : List ℕ) (len b : ℕ) → len < length bytes → take (len + 1) (set bytes len b) ≡ take len bytes ++ b ∷ []

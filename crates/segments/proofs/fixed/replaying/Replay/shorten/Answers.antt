@@ -8,7 +8,8 @@ use Rattle.segments.specs.FixedWalking.{walk_of}
 use Rattle.segments.proofs.checkpoint.Checking.{count_as}
 use Rattle.segments.proofs.replay.ErrorSteps.{cut_as}
 use Rattle.segments.specs.lemmas.held.Passing.{no_error}
-use Rattle.segments.proofs.replay.Shortening.{cut_moments, cut_to, walk_lost, walk_shortened, within_here, within_prefix}
+use Rattle.segments.specs.lemmas.replay.Shortening.{cut_moments, walk_lost, walk_shortened, within_here, within_prefix}
+use Rattle.segments.proofs.replay.Shortening.{cut_to}
 use Rattle.segments.proofs.fixed.replaying.Replay.shorten.Goals as goal
 use Rattle.blob_device.proofs.general.Options.{some_of}
 

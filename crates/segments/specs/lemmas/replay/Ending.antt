@@ -1,0 +1,7 @@
+-- A replay of a fixed journal comes to a section, or to its end: the steps that these are.
+use Rattle.std.specs.Prelude.{ℕ, ◌≤◌, IsSomeAnd, Option, None, Some}
+use Rattle.std.proofs.Common.{arith}
+
+pub ahead_from : (o : Option ℕ) (s t : ℕ) → s ≤ t → IsSomeAnd o (λ n. n ≤ s) → IsSomeAnd o (λ n. n ≤ t)
+ahead_from None s t le h = h
+ahead_from (Some n) s t le h = omega (arith, le, h)
