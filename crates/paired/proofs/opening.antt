@@ -1,10 +1,7 @@
 pub mod Lemmas
-pub mod Laws
 pub mod Recovering
 pub mod Ends
-pub mod Phases
 pub mod Wanted
-pub mod Start
 pub mod StartRefusals
 pub mod StartRun
 pub mod StartMoments

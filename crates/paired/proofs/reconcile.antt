@@ -1,5 +1,4 @@
 pub mod Resting
-pub mod Start
 pub mod Phases
 pub mod Left
 pub mod Stages

@@ -1,9 +1,7 @@
-pub mod Adopt
 pub mod Adopting
 pub mod Clearing
 pub mod Keeping
 pub mod KnownLemmas
 pub mod Leftovers
 pub mod Reopen
-pub mod Repairing
 pub mod Starting

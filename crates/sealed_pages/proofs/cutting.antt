@@ -4,7 +4,6 @@ pub mod Entries
 pub mod Heads
 pub mod Inside
 pub mod Settled
-pub mod Shortening
 pub mod Steps
 pub mod TruncateEnds
 pub mod Truncating

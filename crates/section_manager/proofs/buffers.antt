@@ -1,3 +1,2 @@
-pub mod NothingSealed
 pub mod UnsealedCalls
 pub mod SealedCalls

@@ -1,6 +1,4 @@
-pub mod EntryLemmas
 pub mod HeldLemmas
-pub mod OverLemmas
 pub mod OpenLemmas
 pub mod RemoveLemmas
 pub mod TruncateLemmas
@@ -11,4 +9,3 @@ pub mod RemovingEnds
 pub mod CuttingEnds
 pub mod OpeningEnds
 pub mod InitEnds
-pub mod LentLemmas

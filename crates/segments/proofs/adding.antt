@@ -1,6 +1,5 @@
 pub mod Adding
 pub mod AppendLemmas
-pub mod HadLemmas
 pub mod SettlingEnds
 pub mod Spared
 pub mod TailLemmas

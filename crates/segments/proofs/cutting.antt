@@ -1,4 +1,3 @@
-pub mod CutLemmas
 pub mod CuttingEnds
 pub mod RemoveLemmas
 pub mod RemovingEnds

@@ -19,5 +19,3 @@ pub mod Shortening
 pub mod Steps
 pub mod StepsOn
 pub mod Stopping
-pub mod Walks
-pub mod WalksOn
