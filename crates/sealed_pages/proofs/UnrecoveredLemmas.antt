@@ -22,11 +22,9 @@ use Rattle.sealed_pages.specs.SealedPrefix.{sealed_prefix, adopted_size}
 use Rattle.sealed_pages.specs.Slots.{page_length, best_slot}
 use Rattle.sealed_pages.specs.Unrecovered.{SparedPrefix, SparesPrefix, KeepsPrefix, IsUnrecovered}
 use Rattle.sealed_pages.specs.View.{view, page_at}
-use Rattle.sealed_pages.proofs.cutting.Calls.{sealing_then}
 use Rattle.sealed_pages.proofs.Prefixes.{prefix_look}
-use Rattle.sealed_pages.proofs.memory.Holding.{holds_data}
 use Rattle.blob_device.proofs.general.Numbers.{times_more}
-use Rattle.sealed_pages.specs.lemmas.Unrecovered.{behind_prefix, long, page_settled, page_to, prefix_long, short_of, spared_keeps, spared_stays}
+use Rattle.sealed_pages.specs.lemmas.Unrecovered.{behind_prefix, page_settled, page_to, prefix_long, short_of, spared_keeps, spared_stays}
 
 -- a page below the end of what is spared, which stands whole, is covered as before
 pub spared_covers : (seal : List ℕ → ℕ) (P first : ℕ) (a b : Blob) (k : ℕ) → SparedPrefix (page_at P first) a b → k < first → page_at P (k + 1) ≤ length a.content → page_length seal P b.content k ≡ page_length seal P a.content k

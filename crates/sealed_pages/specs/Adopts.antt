@@ -1,7 +1,7 @@
 -- What adopting an opened blob promises.
 use Rattle.std.specs.Prelude.{◌≡◌, ◌<◌, ◌≤◌, length, ℕ, List, [], Result, IfOk, OnErr}
 use Rattle.blob_device.specs.Disk.{Key, Blob}
-use Rattle.blob_device.specs.Timeline.{Timeline, disk}
+use Rattle.blob_device.specs.Timeline.{disk}
 use Rattle.blob_device.specs.declared.device.Device as device
 use Rattle.blob_device.specs.declared.runtime.RError.{RError}
 use Rattle.sealed_pages.specs.declared.pages.Pages.{Pages}

@@ -4,8 +4,8 @@ use Rattle.std.specs.List.{list_any}
 use Rattle.std.specs.Map.{keys_of}
 use Rattle.std.specs.Result.{IsErrOf}
 use Rattle.blob_device.specs.Counts.{Rose}
-use Rattle.blob_device.specs.Disk.{Key, Blob}
-use Rattle.blob_device.specs.Timeline.{Timeline, disk}
+use Rattle.blob_device.specs.Disk.{Key}
+use Rattle.blob_device.specs.Timeline.{disk}
 use Rattle.blob_device.specs.declared.device.Device as device
 use Rattle.blob_device.specs.declared.error.DevError.{DevError}
 use Rattle.blob_device.specs.declared.error.DevError.TheVariants.{Fault}
@@ -15,7 +15,7 @@ use Rattle.sealed_pages.specs.declared.piece.Piece.{Piece}
 use Rattle.sealed_pages.specs.declared.reading.LastPage.{LastPage}
 use Rattle.sealed_pages.specs.Cached.{uncached, AreCachedOf}
 use Rattle.sealed_pages.specs.Calls.{FailsBelow}
-use Rattle.sealed_pages.specs.Entries.{IsOpenAt, ReadsAtMost}
+use Rattle.sealed_pages.specs.Entries.{ReadsAtMost}
 use Rattle.sealed_pages.specs.Found.{Finds, IsLastBelow, found_of}
 use Rattle.sealed_pages.specs.Pieces.{HasPage, IsPieceOf}
 use Rattle.sealed_pages.specs.Proven.{prefix_upto}

@@ -1,5 +1,5 @@
 -- What the steps of a cut of a settled blob promise. After each of them the blob has settled again.
-use Rattle.std.specs.Prelude.{◌≡◌, ◌≢◌, ◌⊎◌, ◌+◌, ◌-◌, ◌*◌, ◌<◌, ◌≤◌, min, not, length, take, drop, Bool, ℕ, List, Result, Err, IfOk, OnOk, OnErr}
+use Rattle.std.specs.Prelude.{◌≡◌, ◌⊎◌, ◌+◌, ◌*◌, ◌<◌, ◌≤◌, min, not, length, take, drop, Bool, ℕ, List, Result, Err, IfOk, OnOk, OnErr}
 use Rattle.blob_device.specs.Change.{written, resized}
 use Rattle.blob_device.specs.Counts.{Rose}
 use Rattle.blob_device.specs.Disk.{Key, Blob, settled_at}

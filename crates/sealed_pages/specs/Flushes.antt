@@ -1,5 +1,5 @@
 -- What a flush of a buffer over a sealed blob promises, and its two steps.
-use Rattle.std.specs.Prelude.{◌≡◌, ◌⊎◌, ◌+◌, ◌*◌, ◌<◌, ◌≤◌, ◌||◌, length, ℕ, List, Result, Err, true, false, IfOk, OnOk, IsOkAnd}
+use Rattle.std.specs.Prelude.{◌≡◌, ◌⊎◌, ◌*◌, ◌<◌, ◌≤◌, ◌||◌, length, ℕ, List, Result, Err, true, false, IfOk, OnOk, IsOkAnd}
 use Rattle.blob_device.specs.Counts.{Rose}
 use Rattle.blob_device.specs.Disk.{Blob}
 use Rattle.blob_device.specs.Timeline.{Timeline, Always, OnlyAt, disk}

@@ -1,5 +1,5 @@
 -- What removing promises of what a crash left: bytes behind the last page, and a torn slot.
-use Rattle.std.specs.Prelude.{◌≡◌, ◌≢◌, ◌+◌, ◌-◌, ◌*◌, ◌<◌, ◌≤◌, cond, not, length, Bool, true, false, ℕ, List, Result, Err, IfOk, OnOk}
+use Rattle.std.specs.Prelude.{◌≡◌, ◌≢◌, ◌+◌, ◌*◌, ◌<◌, ◌≤◌, cond, length, Bool, true, false, ℕ, List, Result, Err, IfOk, OnOk}
 use Rattle.blob_device.specs.Change.{written, resized}
 use Rattle.blob_device.specs.Counts.{Rose}
 use Rattle.blob_device.specs.Disk.{Key, Blob}
@@ -7,7 +7,7 @@ use Rattle.blob_device.specs.Timeline.{Timeline, disk, Always, OnlyAt}
 use Rattle.blob_device.specs.declared.device.Device as device
 use Rattle.blob_device.specs.declared.error.DevError.{DevError}
 use Rattle.blob_device.specs.declared.error.DevError.TheVariants.{Fault}
-use Rattle.sealed_pages.specs.Buffer.{Adopted, pages_of}
+use Rattle.sealed_pages.specs.Buffer.{Adopted}
 use Rattle.sealed_pages.specs.Cutting.{IsAtRest}
 use Rattle.sealed_pages.specs.Entries.{IsOpenAt, NoReads}
 use Rattle.sealed_pages.specs.Flushing.{Kept, IsClean, Removed, PageFlushed, Data, Wrote, no_slot}

@@ -23,6 +23,7 @@ pub mod FixedPreflight
 pub mod FixedReading
 pub mod FixedRemoving
 pub mod FixedReplay
+pub mod FixedResting
 pub mod FixedSettling
 pub mod FixedShown
 pub mod FixedStepping

@@ -48,14 +48,23 @@ ghost use Rattle.std.specs.List.{Contains};
 ghost use Rattle.std.specs.List.Sorted.{IsStrictlySortedBy};
 ghost use Rattle.std.specs.Ordering.{nat_cmp};
 ghost use Rattle.blob_device.specs.Disk.{Blob, Key};
-ghost use Rattle.blob_device.specs.Timeline.{Always, Timeline, disk};
+ghost use Rattle.blob_device.specs.Timeline.{Always, Each, Timeline, disk};
 ghost use Rattle.sealed_pages.specs.Buffer.{Buffer, bytes_of, IsSealed};
 ghost use Rattle.sealed_pages.specs.ChanceSeal.{Leaves, Sealing};
 ghost use Rattle.sealed_pages.specs.SealedPrefix.{sealed_prefix, Prefix};
 ghost use Rattle.sealed_pages.specs.Unrecovered.{IsUnrecovered};
-ghost use Rattle.section_manager.specs.Sections.{IsHeld};
+ghost use Rattle.sealed_pages.specs.Shown as pages;
+ghost use Rattle.sealed_pages.specs.declared.page_blob.PageBlob.{PageBlob};
+ghost use Rattle.section_manager.specs.Lasting.{Removing};
+ghost use Rattle.section_manager.specs.Sections.{IsHeld, IsKeyOf, IsKnown};
 ghost use Rattle.section_manager.specs.Refusing.{IsPruned};
+ghost use Rattle.section_manager.specs.declared.sealed.AppendFactory.{AppendFactory};
+ghost use Rattle.segments.specs.FixedBounds.{CuttingTail};
 ghost use Rattle.segments.specs.FixedItems.{HoldsFirstItems};
+ghost use Rattle.segments.specs.FixedLists.{Lists};
+ghost use Rattle.segments.specs.FixedRemoving.{IsBelow, IsOlder};
+ghost use Rattle.segments.specs.FixedReplay.{Replaying, Walk};
+ghost use Rattle.segments.specs.FixedResting.{CutsNothing, KeepsPromise};
 
 mod capping;
 mod cursor;
@@ -132,7 +141,9 @@ pub struct Journal<A: CodecFixed, S: Seal> {
 /// Of a blob that no call touches a crash leaves what its buffer promises. Of a sealed one it is a prefix of
 /// the bytes, no shorter than what has settled (`rests`). Of one that owes a replay it is the whole sealed
 /// prefix (`waits`). That stands at every moment of a call that touches another section's blob alone
-/// (`others`).
+/// (`others`). It stands at every moment of a call that removes sections, of each other blob (`removes`), and
+/// of one that also cuts the last section that is left (`tails`). Of a replay it stands of each section that
+/// the replay does not cut, also of those that it goes over (`replays`).
 pub fn item_laws<A: CodecFixed, S: Seal>()
     ensures first { (P : ℕ) (bytes : List ℕ) (least : ℕ) (c : List ℕ)
         → Prefix S.seal_of P bytes least c → HoldsFirstItems A.SIZE bytes least
@@ -147,6 +158,21 @@ pub fn item_laws<A: CodecFixed, S: Seal>()
         → Sealing S.seal_of P bytes least key old new → q ≢ key
         → (size : ℕ) (kept : List ℕ) (few : ℕ) → Leaves S.seal_of size kept few (disk old q)
         → Always old new (λ d. Leaves S.seal_of size kept few (d q)) }
+    ensures removes { (j : Lists (AppendFactory S) (PageBlob S S.Seal)) (min : ℕ) (u : Buffer)
+        (q : Key) (old new : Timeline)
+        → Always old new (Removing j.sections (IsBelow j min) IsOlder (disk old))
+        → (IsKeyOf j.sections (IsBelow j min) q → ⊥) → u.from < u.page_size
+        → KeepsPromise S.seal_of u q old new }
+    ensures tails { (j : Lists (AppendFactory S) (PageBlob S S.Seal)) (section n : ℕ)
+        (u : Buffer) (q : Key) (old new : Timeline)
+        → Always old new (CuttingTail S.seal_of j section n (disk old))
+        → (IsKeyOf j.sections (λ s. IsKnown j.sections s × (section ≤ s)) q → ⊥)
+        → u.from < u.page_size → KeepsPromise S.seal_of u q old new }
+    ensures replays { (w : Walk (AppendFactory S) (PageBlob S S.Seal)) (u : PageBlob S S.Seal)
+        (q : Key) (old new : Timeline)
+        → Always old new (Each (Replaying S.seal_of A.SIZE w (disk old)))
+        → CutsNothing S.seal_of A.SIZE w (disk old) q u → (pages.shown u).from < u.page_size
+        → KeepsPromise S.seal_of (pages.shown u) q old new }
 {}
 
 impl<A: CodecFixed, S: Seal> Journal<A, S> {

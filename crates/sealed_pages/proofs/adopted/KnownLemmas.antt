@@ -1,7 +1,7 @@
 -- What is known of what a crash left, once more was flushed.
 use Rattle.std.proofs.Common.{◌≡◌, ◌≢◌, ◌⊎◌, inl, inr, ◌∙◌, ℕ, ◌+◌, ◌*◌, ◌≤◌, false, List, length, ap, sym, subst, arith}
 use Rattle.blob_device.specs.Disk.{Blob}
-use Rattle.sealed_pages.specs.Buffer.{Buffer, size_of, flushed_of, has_leftover}
+use Rattle.sealed_pages.specs.Buffer.{Buffer, size_of, has_leftover}
 use Rattle.sealed_pages.specs.Leftover.{IsKnown}
 
 module _ (seal : List ℕ → ℕ) (u r : Buffer) where

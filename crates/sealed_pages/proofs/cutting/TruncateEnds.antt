@@ -1,5 +1,5 @@
 -- A cut of a buffer whose bytes a sync has settled first: what it owes, from what the two calls say.
-use Rattle.std.proofs.Common.{◌≡◌, ◌+◌, ◌*◌, ◌/◌, ◌%◌, ◌≤◌, ◌<◌, ◌∙◌, ◌⊎◌, min, ap, sym, subst, ℕ, Bool, List, [], false, length, take, refl, arith, length-take, inl, inr, Result, Ok, Err, Option, Some, None, IsSomeAnd}
+use Rattle.std.proofs.Common.{◌≡◌, ◌+◌, ◌*◌, ◌/◌, ◌%◌, ◌≤◌, ◌<◌, ◌∙◌, ◌⊎◌, min, ap, sym, subst, ℕ, List, [], false, length, take, refl, arith, length-take, inl, inr, Result, Ok, Err, Option, Some, None, IsSomeAnd}
 use Rattle.std.specs.Prelude.{IfOk, OnOk, OnErr}
 use Rattle.blob_device.specs.Counts.{Rose}
 use Rattle.blob_device.specs.Disk.{Key, Disk, Blob}

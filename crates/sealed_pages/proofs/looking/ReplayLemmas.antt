@@ -21,7 +21,7 @@ use Rattle.blob_device.specs.declared.runtime.RError.TheVariants.{Mem}
 use Rattle.sealed_pages.specs.Replays.{Begins}
 use Rattle.sealed_pages.proofs.cutting.Truncating.{no_value}
 use Rattle.blob_device.proofs.general.Numbers.{div_place, times_more}
-use Rattle.sealed_pages.specs.lemmas.looking.Replay.{PageReads, high, low, wanted, within}
+use Rattle.sealed_pages.specs.lemmas.looking.Replay.{PageReads, wanted, within}
 
 pub data_nil : (P m : ℕ) (v : View) (xs : List ℕ) → length xs ≡ 0 → xs ≡ data_from P v m (length xs)
 data_nil P m v xs none = read_data P m (length xs) v xs refl (λ i lt. absurd (omega (arith, lt, none)))

@@ -1,9 +1,9 @@
 -- What a buffer has in memory behind a flush.
-use Rattle.std.proofs.Common.{◌≡◌, inl, inr, ℕ, ◌+◌, ◌-◌, ◌*◌, ◌<◌, ◌≤◌, min, List, [], ◌++◌, length, take, sym, ◌∙◌, ap, subst, arith, ◌/◌, ◌%◌}
+use Rattle.std.proofs.Common.{◌≡◌, inl, inr, ℕ, ◌+◌, ◌-◌, ◌*◌, ◌<◌, ◌≤◌, List, [], ◌++◌, length, sym, ◌∙◌, ap, subst, arith, ◌/◌, ◌%◌}
 use Rattle.std.proofs.lemmas.Bool.{cases_lt}
 use Rattle.std.proofs.lemmas.List.Elements.{All-append, All-take, All-nil}
 use Rattle.blob_device.specs.Disk.{Blob}
-use Rattle.sealed_pages.specs.Buffer.{Buffer, size_of, flushed_of, bytes_of, FlushesInto, HasFlushed, IsBacked}
+use Rattle.sealed_pages.specs.Buffer.{Buffer, size_of, FlushesInto, IsBacked}
 use Rattle.sealed_pages.specs.Cached.{full_pages, AreFull, AreWhole, IsCachedOf, AreCachedOf}
 use Rattle.sealed_pages.specs.Flushing.{Data, CoversFrom}
 use Rattle.sealed_pages.specs.Slots.{page_length}

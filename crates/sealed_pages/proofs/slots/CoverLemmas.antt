@@ -1,15 +1,12 @@
 -- Pages that matching slots cover, where bytes behind them are written, and those that a flush writes.
-use Rattle.std.proofs.Common.{◌≡◌, ◌⊎◌, inl, inr, ℕ, zero, suc, ◌+◌, ◌-◌, ◌*◌, ◌^◌, ◌<◌, ◌≤◌, min, Bool, false, true, List, [], ◌∷◌, ◌++◌, length, get_or, take, drop, Ok, refl, sym, ◌∙◌, ap, subst, arith, length-take, length-drop}
-use Rattle.std.specs.List.{All}
-use Rattle.std.proofs.Math.Nat.{mul-le-mul_right}
+use Rattle.std.proofs.Common.{◌≡◌, inl, inr, ℕ, zero, suc, ◌+◌, ◌*◌, ◌^◌, ◌<◌, ◌≤◌, Bool, false, true, List, length, get_or, take, drop, Ok, sym, ◌∙◌, ap, arith}
 use Rattle.std.proofs.lemmas.Bool.{cases_lt, cases_eq}
 use Rattle.std.proofs.lemmas.List.{get_or-take, get_or-drop}
-use Rattle.std.proofs.lemmas.List.Elements.{All-nil, All-cons, All-weaker}
+use Rattle.std.proofs.lemmas.List.Elements.{All-nil, All-cons}
 use Rattle.blob_device.specs.Change.{Write, written}
 use Rattle.blob_device.specs.Disk.{Key, Blob}
 use Rattle.blob_device.specs.Timeline.{Timeline, disk, Passes}
 use Rattle.blob_device.specs.lemmas.Moments.{ok_blob}
-use Rattle.blob_device.specs.declared.error.DevError.{DevError}
 use Rattle.sealed_pages.specs.Cached.{full_pages, AreFull, IsCachedOf, AreCachedOf}
 use Rattle.sealed_pages.specs.Flushing.{Data, CoversFrom}
 use Rattle.sealed_pages.specs.Slots.{slot_length, page_length, slot_bytes}
@@ -18,7 +15,7 @@ use Rattle.sealed_pages.specs.View.{view, page_at, slot_at, StandsAt}
 use Rattle.sealed_pages.specs.lemmas.adopted.Repairing.{page_order}
 use Rattle.sealed_pages.specs.lemmas.looking.Looking.{page_length_is}
 use Rattle.sealed_pages.specs.lemmas.slots.SealedBytes.{page_length-le}
-use Rattle.sealed_pages.specs.lemmas.slots.Slot.{page_next, slot_length-le, slot_same, slot_stands}
+use Rattle.sealed_pages.specs.lemmas.slots.Slot.{page_next, slot_same, slot_stands}
 use Rattle.sealed_pages.specs.lemmas.slots.SlotSteps.{length-slot_bytes, slot_is, slot_matches}
 use Rattle.sealed_pages.specs.lemmas.slots.Steps.{slot_high}
 use Rattle.sealed_pages.proofs.slots.PageCalls.{page_wrote}

@@ -17,7 +17,7 @@ use Rattle.sealed_pages.specs.lemmas.Had.{had_settled}
 use Rattle.sealed_pages.specs.lemmas.slots.SealedBytes.{stands_leaves}
 use Rattle.sealed_pages.specs.lemmas.slots.SlotSteps.{length-slot_bytes, slot_data_kept, stands_settled}
 use Rattle.sealed_pages.specs.lemmas.slots.Steps.{data_same, tidy_sound}
-use Rattle.sealed_pages.specs.lemmas.slots.PageCalls.{alone_then, chunk_is, data1, only_then, only_weaker, pos, short, was}
+use Rattle.sealed_pages.specs.lemmas.slots.PageCalls.{alone_then, only_then, only_weaker, was}
 
 -- the same call, its place and bytes spelled otherwise
 pub passes_as : {T : Type 0} {key : Key} {at x : ℕ} {chunk l : List ℕ} {r : Result T DevError} {t0 t1 : Timeline} → at ≡ x → chunk ≡ l → Passes key (Write at chunk) r t0 t1 → Passes key (Write x l) r t0 t1

@@ -1,6 +1,6 @@
 use Rattle.sealed_pages.proofs.cutting.Truncating.{no_value}
 use Rattle.sealed_pages.proofs.cutting.Settled.{not_changed, not_settled, is_settled}
-use Rattle.std.proofs.Common.{not, ap, length, arith, rules, refl, inl, inr}
+use Rattle.std.proofs.Common.{not, ap, length, arith, rules}
 use Rattle.sealed_pages.proofs.cutting.Calls.{short_one, short_two, settled_after, not_other}
 use Rattle.sealed_pages.specs.lemmas.Entries.{open_some, open_same, open_written, no_reads_part, no_reads_updated, no_reads_open}
 use Rattle.sealed_pages.proofs.slots.PageCalls.{passes_as}

@@ -1,6 +1,6 @@
 use Rattle.sealed_pages.proofs.cutting.Truncating.{no_value}
 use Rattle.sealed_pages.proofs.cutting.Settled.{not_changed, not_settled, is_settled}
-use Rattle.std.proofs.Common.{not, refl, arith, rules, inl, inr}
+use Rattle.std.proofs.Common.{not, refl, arith}
 use Rattle.sealed_pages.proofs.cutting.Calls.{zeros_one, zeros_two, settled_after, not_other}
 use Rattle.sealed_pages.specs.lemmas.Entries.{open_some, open_same, open_written, no_reads_part, no_reads_updated, no_reads_open}
 use Rattle.sealed_pages.proofs.slots.PageCalls.{passes_as}

@@ -1,4 +1,4 @@
-use Rattle.std.proofs.Common.{arith, rules, refl, inl, inr}
+use Rattle.std.proofs.Common.{arith, rules}
 use Rattle.sealed_pages.proofs.cutting.Inside.{slot_as, cut_failed, add_failed, cleared}
 use Rattle.sealed_pages.specs.lemmas.slots.Slot.{page_next}
 use Rattle.sealed_pages.specs.SlotNames.{is_b, opened_key}

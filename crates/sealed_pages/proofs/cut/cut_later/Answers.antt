@@ -5,7 +5,7 @@ use Rattle.std.proofs.lemmas.List.{take_all}
 use Rattle.sealed_pages.proofs.slots.PageCalls.{alone_start}
 use Rattle.sealed_pages.specs.lemmas.Entries.{no_reads_start, open_some}
 use Rattle.sealed_pages.proofs.cutting.Truncating.{no_value}
-use Rattle.std.proofs.Common.{arith, rules, refl, inl, inr, sym, ap, ◌∙◌}
+use Rattle.std.proofs.Common.{arith, rules, sym, ap, ◌∙◌}
 use Rattle.blob_device.specs.Timeline.{disk}
 use Rattle.sealed_pages.proofs.cutting.Calls.{rest_sealing}
 use Rattle.sealed_pages.proofs.cutting.Heads.{end_is}

@@ -1,6 +1,6 @@
 use Rattle.sealed_pages.proofs.cutting.Truncating.{no_value}
 use Rattle.sealed_pages.proofs.cutting.Settled.{not_changed, not_settled, is_settled}
-use Rattle.std.proofs.Common.{subst, ℕ, arith, rules, refl, inl, inr}
+use Rattle.std.proofs.Common.{subst, ℕ, arith}
 use Rattle.blob_device.specs.Change.{Resize}
 use Rattle.sealed_pages.specs.Entries.{IsOpenAt}
 use Rattle.sealed_pages.proofs.cutting.Calls.{cut_one, cut_two, settled_after}

@@ -1,5 +1,5 @@
 use Rattle.sealed_pages.proofs.cutting.Truncating.{no_value}
-use Rattle.std.proofs.Common.{rules, ◌≡◌, ◌+◌, ◌-◌, ◌≤◌, ◌∙◌, min, max, ap, sym, length, take, arith, length-take, refl, inl, inr}
+use Rattle.std.proofs.Common.{rules, ◌≡◌, ◌+◌, ◌-◌, ◌≤◌, ◌∙◌, min, max, ap, sym, length, take, arith, length-take, refl, inl}
 use Rattle.blob_device.specs.Timeline.{disk}
 use Rattle.sealed_pages.proofs.cutting.Entries.{few_once, read_open}
 use Rattle.sealed_pages.proofs.cutting.Heads.{end_is, Looked, looked, none_there, keep_inside, is_covered, is_refused, is_best, head_is}

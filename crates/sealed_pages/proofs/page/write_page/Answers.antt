@@ -1,4 +1,4 @@
-use Rattle.std.proofs.Common.{◌+◌, ◌-◌, ap, refl, length, take, drop, max, ℕ, arith, length-drop, rules, inl, inr}
+use Rattle.std.proofs.Common.{◌+◌, ◌-◌, ap, refl, length, take, drop, max, ℕ, arith, length-drop, rules}
 use Rattle.sealed_pages.specs.lemmas.Entries.{open_some, no_reads_updated, no_reads_part, no_reads_open, open_written}
 use Rattle.sealed_pages.proofs.slots.PageCalls.{passes_as, rest_whole}
 use Rattle.sealed_pages.proofs.PageWritten.{data_failed, slot_failed, page_written}

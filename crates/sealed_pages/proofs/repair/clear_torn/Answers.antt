@@ -1,5 +1,5 @@
 use Rattle.sealed_pages.proofs.cutting.Truncating.{no_value}
-use Rattle.std.proofs.Common.{◌+◌, max, refl, arith, ◌∙◌, ◌≡◌, Bool, cond, ap, sym, rules, inl, inr}
+use Rattle.std.proofs.Common.{◌+◌, max, refl, arith, ◌∙◌, ◌≡◌, Bool, cond, ap, sym, rules}
 use Rattle.sealed_pages.proofs.slots.PageCalls.{passes_as, no_ok, alone_start, alone_on}
 use Rattle.sealed_pages.specs.lemmas.Entries.{open_some, no_reads_part, no_reads_updated, open_written, no_reads_start}
 use Rattle.sealed_pages.proofs.adopted.Keeping.{kept_start, clear_any, clear_ok, clear_data}

@@ -1,5 +1,5 @@
 use Rattle.sealed_pages.proofs.cutting.Truncating.{no_value}
-use Rattle.std.proofs.Common.{arith, ◌∙◌, ◌≡◌, Bool, cond, ap, sym, rules, refl, inl, inr}
+use Rattle.std.proofs.Common.{arith, ◌∙◌, ◌≡◌, Bool, cond, ap, sym, rules}
 use Rattle.sealed_pages.proofs.slots.PageCalls.{no_ok, alone_start, alone_on}
 use Rattle.sealed_pages.specs.lemmas.Entries.{open_some, no_reads_resize, no_reads_updated, open_resized, no_reads_start}
 use Rattle.sealed_pages.proofs.adopted.Keeping.{kept_start, behind_any, behind_ok, resize_as, cut_data}

@@ -1,4 +1,4 @@
-use Rattle.std.proofs.Common.{◌+◌, arith, false, refl, rules}
+use Rattle.std.proofs.Common.{◌+◌, arith, false, rules}
 use Rattle.sealed_pages.proofs.slots.SlotLemmas.{index_page}
 use Rattle.sealed_pages.proofs.adopted.Adopting.{pages_place_order}
 use Rattle.sealed_pages.proofs.looking.Looking.{below_some}

@@ -1,4 +1,4 @@
-use Rattle.std.proofs.Common.{◌-◌, ◌≡◌, ◌≤◌, ◌+◌, ◌++◌, take}
+use Rattle.std.proofs.Common.{◌-◌, ◌≡◌, ◌≤◌, ◌++◌, take}
 use Rattle.sealed_pages.specs.Cached.{held_in, full_pages}
 use Rattle.sealed_pages.proofs.cache.PageCache.put_each.Given as goal
 

@@ -1,4 +1,4 @@
-use Rattle.std.proofs.Common.{arith, refl}
+use Rattle.std.proofs.Common.{arith}
 use Rattle.sealed_pages.specs.Shown.{shown}
 use Rattle.sealed_pages.proofs.FlushEnds.{flush_idle, flush_unrepaired, flush_written}
 use Rattle.sealed_pages.proofs.page_blob.PageBlob.flush.Goals as goal
