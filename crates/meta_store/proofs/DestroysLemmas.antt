@@ -14,7 +14,7 @@ use Rattle.meta_store.specs.Crashes.{KeepsAlone}
 use Rattle.meta_store.specs.Errors.{raised}
 use Rattle.meta_store.specs.Format.{Format}
 use Rattle.meta_store.specs.Pairs.{empty_map}
-use Rattle.meta_store.specs.Removing.{Destroys, RemovalEnds, RemovalMoments, Removed, Removing}
+use Rattle.meta_store.specs.Removing.{Destroys, RemovalEnds, RemovalMoments, Removing}
 use Rattle.meta_store.specs.Store.{Seen}
 use Rattle.meta_store.proofs.Failing.{failed, failed_later}
 use Rattle.meta_store.proofs.OpenedSides.{both_left, listed_then, others_then, removed_listed, removed_others}

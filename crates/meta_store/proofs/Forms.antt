@@ -1,5 +1,5 @@
 -- Which form bytes name.
-use Rattle.std.proofs.Common.{◌≡◌, ◌≢◌, ℕ, zero, suc, ◌+◌, refl, ap, subst}
+use Rattle.std.proofs.Common.{◌≡◌, ◌≢◌, ℕ, zero, suc, refl, ap}
 use Rattle.meta_store.specs.declared.copy.Form.TheVariants.{Plain, Floored}
 use Rattle.meta_store.specs.Copies.{form_of}
 

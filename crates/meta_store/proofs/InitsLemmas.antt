@@ -1,17 +1,15 @@
 -- How an opening of a map ends.
-use Rattle.std.proofs.Common.{◌≡◌, ◌⊎◌, inl, inr, ◌<◌, ◌≤◌, ◌^◌, ℕ, List, length, Result, Ok, Err, refl, sym, ◌∙◌, ap, subst, arith}
+use Rattle.std.proofs.Common.{◌≡◌, inl, inr, ◌<◌, ◌≤◌, ◌^◌, ℕ, List, length, Result, Ok, Err, refl, sym, ◌∙◌, ap, subst, arith}
 use Rattle.blob_device.specs.Change.{Look, Make}
 use Rattle.blob_device.specs.Counts as counts
 use Rattle.blob_device.specs.Counts.{Counted, Rose}
-use Rattle.blob_device.specs.Disk.{Blob, Disk, Key, settled_at}
+use Rattle.blob_device.specs.Disk.{Blob, Disk, Key}
 use Rattle.blob_device.specs.Opened.{entered, one_more_read, updated}
 use Rattle.blob_device.specs.Timeline.{Always, Passes, disk}
 use Rattle.blob_device.specs.declared.device.Device as device
 use Rattle.blob_device.specs.declared.error.DevError.{DevError}
 use Rattle.blob_device.specs.declared.error.DevError.TheVariants.{Fault, Mem}
-use Rattle.blob_device.specs.declared.runtime.RError.TheVariants as runtime
 use Rattle.blob_device.specs.lemmas.Moments.{always_start, always_weaker}
-use Rattle.meta_store.specs.declared.copy.Contents.{Contents}
 use Rattle.meta_store.specs.declared.copy.CopyText.{CopyText}
 use Rattle.meta_store.specs.declared.error.Error.{Error}
 use Rattle.meta_store.specs.declared.error.Error.TheVariants as error
@@ -19,12 +17,12 @@ use Rattle.meta_store.specs.declared.error.Side.{Side}
 use Rattle.meta_store.specs.declared.error.Side.TheVariants.{Left, Right}
 use Rattle.meta_store.specs.declared.pair.Chosen.{Chosen}
 use Rattle.meta_store.specs.Blobs.{blob_of, read_bytes}
-use Rattle.meta_store.specs.Calls.{CalledAtMost, IsFailure, IsOpened, MayRead, OthersOpened, ReadAtMostOnce}
+use Rattle.meta_store.specs.Calls.{CalledAtMost, IsFailure, OthersOpened, ReadAtMostOnce}
 use Rattle.meta_store.specs.Copies.{ReadsOnlyAs}
 use Rattle.meta_store.specs.Crashes.{KeepsAlone}
 use Rattle.meta_store.specs.Errors.{raised}
 use Rattle.meta_store.specs.Format.{Format}
-use Rattle.meta_store.specs.Opening.{BothOpened, BothOpenedEnds, Holds, HoldsChosen, InitEnds, Inits, IsOpeningCause, LoadEnds, Loads, Looks, NotOpened, Opened, Opening, OpensBoth, PairOn}
+use Rattle.meta_store.specs.Opening.{BothOpenedEnds, Holds, InitEnds, Inits, IsOpeningCause, LoadEnds, Loads, Looks, NotOpened, Opening, OpensBoth, PairOn}
 use Rattle.meta_store.specs.Pairs.{chosen_of}
 use Rattle.meta_store.specs.Store.{MayBeSynced, Seen, chosen_by, contents_of}
 use Rattle.meta_store.proofs.DeviceCalls.{looked}

@@ -1,15 +1,14 @@
 -- How what a crash leaves of each blob by itself makes what it leaves of a map.
-use Rattle.std.proofs.Common.{◌≡◌, ◌⊎◌, inl, inr, ℕ, ◌<◌, ◌≤◌, Bool, true, false, List, [], ◌∷◌, length, get_or, Result, Option, Some, None, refl, sym, ◌∙◌, ap, subst}
+use Rattle.std.proofs.Common.{◌≡◌, ◌⊎◌, inl, inr, ℕ, Bool, true, false, List, Option, Some, None, refl, sym, ◌∙◌, ap, subst}
 use Rattle.blob_device.specs.Disk.{Blob, MayLeave, past, settled_at, nothing}
 use Rattle.blob_device.specs.Change.{Remove, during}
 use Rattle.meta_store.specs.declared.copy.CopyText.{CopyText}
-use Rattle.meta_store.specs.declared.copy.CopyText.TheVariants.{Absent, Refused, Whole}
+use Rattle.meta_store.specs.declared.copy.CopyText.TheVariants.{Absent}
 use Rattle.meta_store.specs.Format.{Format}
 use Rattle.meta_store.specs.Copies.{ReadsAs}
 use Rattle.meta_store.specs.Blobs.{bytes_of}
-use Rattle.meta_store.specs.Pairs.{HoldMap}
 use Rattle.meta_store.specs.Removing.{Removes, as_before, begun, unseen, gone}
-use Rattle.meta_store.specs.Crashes.{NoChanceSeal, HoldEither}
+use Rattle.meta_store.specs.Crashes.{NoChanceSeal}
 use Rattle.meta_store.specs.lemmas.Sealing.{empty_absent}
 use Rattle.meta_store.specs.lemmas.Leaving.{LeavesText, leaves_weaker, nothing_leaves, settled_content, settled_leaves}
 

@@ -1,8 +1,8 @@
 -- What opening the two blobs, the left one first, makes of them.
-use Rattle.std.proofs.Common.{◌≡◌, ◌≢◌, ◌⊎◌, inl, inr, ℕ, Bool, true, false, cond, List, [], Result, Ok, Err, Some, None, unwrap_or, refl, sym, ◌∙◌, ap, subst}
+use Rattle.std.proofs.Common.{◌≡◌, ◌≢◌, inl, inr, ℕ, Bool, true, false, cond, List, [], Result, Ok, Err, Some, None, unwrap_or, refl, sym, ◌∙◌, ap, subst}
 use Rattle.blob_device.specs.declared.error.DevError.{DevError}
-use Rattle.blob_device.specs.Disk.{Key, Blob, Disk, settled_at}
-use Rattle.blob_device.specs.Change.{Make, during, done, FailedTo}
+use Rattle.blob_device.specs.Disk.{Key, Blob, settled_at}
+use Rattle.blob_device.specs.Change.{Make, done, FailedTo}
 use Rattle.blob_device.specs.Timeline.{Timeline, disk, Passes, Always, OnlyAt}
 use Rattle.blob_device.specs.lemmas.Moments.{always_now, always_then, always_weaker, only_start, only_on, ok_blob, err_has}
 use Rattle.meta_store.specs.declared.error.Side.TheVariants.{Left, Right}

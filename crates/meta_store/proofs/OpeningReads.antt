@@ -2,11 +2,10 @@
 use Rattle.std.proofs.Common.{◌≡◌, ◌≢◌, ◌⊎◌, inl, inr, ℕ, ◌≤◌, List, Option, Some, None, IsSome, IsSomeAnd, refl, sym, ◌∙◌, ap, subst, arith}
 use Rattle.std.specs.Option.{option_map}
 use Rattle.blob_device.specs.Disk.{Key}
-use Rattle.blob_device.specs.Opened.{Opened, OpenedList, entered, updated, one_more_read, reads_of}
+use Rattle.blob_device.specs.Opened.{Opened, OpenedList, entered, one_more_read, reads_of}
 use Rattle.blob_device.specs.Counts.{next}
 use Rattle.blob_device.specs.lemmas.Puts.{put_same}
 use Rattle.blob_device.specs.lemmas.Opened.{entered_open, entered_fits, entered_other, updated_open, updated_other}
-use Rattle.meta_store.specs.declared.error.Side.{Side}
 use Rattle.meta_store.specs.declared.error.Side.TheVariants.{Left, Right}
 use Rattle.meta_store.specs.Blobs.{blob_of}
 use Rattle.meta_store.specs.Calls.{IsOpened, MayRead, OthersOpened, NoReads, ReadAtMostOnce}

@@ -1,12 +1,9 @@
 -- The two blobs of a map by the side that is written next.
-use Rattle.std.proofs.Common.{◌≢◌, ◌⊎◌, inl, inr, ℕ, List, Result, Err, refl, sym, ◌∙◌, subst}
+use Rattle.std.proofs.Common.{◌≢◌, ℕ, List, sym}
 use Rattle.blob_device.specs.Disk.{Key}
 use Rattle.meta_store.specs.declared.error.Side.{Side}
 use Rattle.meta_store.specs.declared.error.Side.TheVariants.{Left, Right}
-use Rattle.meta_store.specs.declared.pair.Chosen.{Chosen}
-use Rattle.meta_store.specs.Pairs.{ReadsPair}
 use Rattle.meta_store.specs.Blobs.{blob_of, other_side}
-use Rattle.meta_store.specs.Store.{chosen_by}
 use Rattle.meta_store.specs.lemmas.Sides.{sides_apart}
 
 pub apart : (p : List ℕ) (side : Side) → blob_of p side ≢ blob_of p (other_side side)

@@ -3,15 +3,13 @@ use Rattle.std.proofs.Common.{◌≡◌, ◌<◌, ◌≤◌, ◌||◌, ℕ, true
 use Rattle.std.proofs.lemmas.Bool.Decides.{nat_tests}
 use Rattle.std.specs.Prelude.{nat_lt}
 use Rattle.std.specs.BTreeMap.{insert_entry}
-use Rattle.blob_device.specs.Disk.{Disk}
-use Rattle.meta_store.specs.declared.copy.Contents.{Contents}
 use Rattle.meta_store.specs.declared.error.Error.{Error}
 use Rattle.meta_store.specs.declared.error.Error.TheVariants.{Mem}
 use Rattle.meta_store.specs.Copies.{IsStorable}
 use Rattle.meta_store.specs.Entries.{PutsValue, Retained}
 use Rattle.meta_store.specs.Format.{Format}
 use Rattle.meta_store.specs.Staging.{HasPut, Puts, Retains, SetsFloor, StandsAsBefore}
-use Rattle.meta_store.specs.Store.{MayBeSynced, Seen, Stands, Store, contents_of, staging}
+use Rattle.meta_store.specs.Store.{MayBeSynced, Seen, Store, staging}
 use Rattle.meta_store.proofs.Inserting.{retained_all, retained_has}
 use Rattle.meta_store.proofs.StandingLemmas.{stands_changed}
 use Rattle.blob_device.proofs.general.Maps.{all_inserted}

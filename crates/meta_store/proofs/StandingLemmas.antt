@@ -1,5 +1,5 @@
 -- How a map stands on its device while changes are staged.
-use Rattle.std.proofs.Common.{◌≡◌, false, List, sym, ◌∙◌, subst}
+use Rattle.std.proofs.Common.{◌≡◌, false, sym, ◌∙◌, subst}
 use Rattle.blob_device.specs.Disk.{Disk}
 use Rattle.meta_store.specs.declared.copy.Contents.{Contents}
 use Rattle.meta_store.specs.Format.{Format}

@@ -1,16 +1,12 @@
 -- What writing the next copy of a map, and settling it, leaves of the map.
-use Rattle.std.proofs.Common.{◌≡◌, ◌≢◌, ℕ, List, [], ◌∷◌, Result, Ok, Err, ◌∙◌, ap, subst}
-use Rattle.std.specs.List.{AllByRecursion}
+use Rattle.std.proofs.Common.{◌≡◌, ℕ, List, Result, Ok, ◌∙◌, ap, subst}
 use Rattle.blob_device.specs.declared.error.DevError.{DevError}
 use Rattle.blob_device.specs.Disk.{Key, Blob, settled_at}
 use Rattle.blob_device.specs.Change.{Write, Settle, written}
 use Rattle.blob_device.specs.Timeline.{Timeline, disk, Passes, Always, OnlyAt}
 use Rattle.blob_device.specs.lemmas.Moments.{always_weaker, only_start, only_on, ok_blob}
 use Rattle.meta_store.specs.declared.error.Side.{Side}
-use Rattle.meta_store.specs.declared.pair.Chosen.{Chosen}
-use Rattle.meta_store.specs.Copies.{IsWholeAs, copy_bytes}
 use Rattle.meta_store.specs.Blobs.{blob_of, OnlyOne}
-use Rattle.meta_store.specs.lemmas.Choices.{Is}
 
 -- the blob that the two calls leave
 pub sync_wrote : {T U : Type 0} (k : Key) (bytes : List ℕ) (v : T) (w : U) (a b c : Timeline) → Passes k (Write 0 bytes) (Ok v) a b → Passes k Settle (Ok w) b c → disk c k ≡ settled_at (written (disk a k).content 0 bytes)

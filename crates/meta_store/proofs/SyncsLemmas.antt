@@ -1,11 +1,11 @@
 -- How a sync of a map ends.
-use Rattle.std.proofs.Common.{◌≡◌, ◌⊎◌, inl, inr, ◌+◌, ◌<◌, ◌≤◌, ◌^◌, ℕ, List, Bool, true, false, cond, length, max, Result, Ok, Err, refl, sym, ◌∙◌, ap, subst, arith}
+use Rattle.std.proofs.Common.{◌≡◌, inl, inr, ◌+◌, ◌<◌, ◌≤◌, ◌^◌, ℕ, List, Bool, true, false, cond, length, max, Result, Ok, Err, refl, sym, ◌∙◌, ap, subst, arith}
 use Rattle.std.specs.BTreeMap.{insert_entry}
 use Rattle.blob_device.specs.Change.{Settle, Write}
 use Rattle.blob_device.specs.Counts.{Counted, next}
 use Rattle.blob_device.specs.Disk.{Key}
 use Rattle.blob_device.specs.Opened.{PartlyGrown, updated, with_len}
-use Rattle.blob_device.specs.Timeline.{Always, Passes, disk}
+use Rattle.blob_device.specs.Timeline.{Passes, disk}
 use Rattle.blob_device.specs.declared.device.Device as device
 use Rattle.blob_device.specs.declared.error.DevError.{DevError}
 use Rattle.blob_device.specs.lemmas.Moments.{always_start}
@@ -22,7 +22,7 @@ use Rattle.meta_store.specs.Staging.{HasPut}
 use Rattle.meta_store.specs.Store.{MayBeSynced, Seen, Stands, contents_of}
 use Rattle.meta_store.specs.Syncs.{PutSyncs, SyncEnds, Syncs, putting}
 use Rattle.meta_store.proofs.Failing.{caused, caused_later}
-use Rattle.meta_store.proofs.OpenedSides.{grew_at, grew_opened, grew_others, grew_partly, grew_reads, grew_then, opened_at, reads_stay}
+use Rattle.meta_store.proofs.OpenedSides.{grew_at, grew_opened, grew_others, grew_partly, grew_reads, grew_then, reads_stay}
 use Rattle.meta_store.specs.lemmas.Sides.{stands_on}
 use Rattle.meta_store.specs.lemmas.Syncing.{both_crashes, stands_alone, stands_by, then_stands, write_crashes}
 use Rattle.meta_store.proofs.SyncingLemmas.{both_alone, settle_at_side, sync_wrote, write_alone, write_at_side}

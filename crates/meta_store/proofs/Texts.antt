@@ -1,5 +1,5 @@
 -- What stands where in a sealed copy, and that bytes begin with one copy at most.
-use Rattle.std.proofs.Common.{◌≡◌, ℕ, List, [], ◌∷◌, ◌++◌, length, ◌∙◌, ap}
+use Rattle.std.proofs.Common.{◌≡◌, ℕ, List, [], ◌++◌, length, ◌∙◌, ap}
 use Rattle.std.specs.Int.{w32, w64, to_be_bytes}
 use Rattle.meta_store.specs.declared.copy.Form.{Form}
 use Rattle.meta_store.specs.Copies.{head_bytes, copy_bytes, form_bytes}

@@ -1,6 +1,6 @@
 -- What a crash leaves of a map in two copies.
 use Rattle.std.specs.Prelude.{◌≡◌, ◌⊎◌, ℕ, List, [], ◌∷◌, take, Option}
-use Rattle.blob_device.specs.Disk.{Key, Blob, Disk, past, reads, MayLeave}
+use Rattle.blob_device.specs.Disk.{Blob, Disk, past, reads, MayLeave}
 use Rattle.blob_device.specs.Timeline.{Timeline, disk, Always}
 use Rattle.meta_store.specs.declared.copy.Contents.{Contents}
 use Rattle.meta_store.specs.declared.copy.Form.{Form}

@@ -1,5 +1,5 @@
 -- What the calls that stage a change promise.
-use Rattle.std.specs.Prelude.{◌≡◌, ℕ, ◌||◌, true, nat_lt, Bool, List, length, Result, Ok, Err}
+use Rattle.std.specs.Prelude.{◌≡◌, ℕ, ◌||◌, true, nat_lt, Bool, length, Result, Ok, Err}
 use Rattle.std.specs.BTreeMap.{insert_entry}
 use Rattle.blob_device.specs.Disk.{Disk}
 use Rattle.meta_store.specs.declared.copy.Contents.{Contents}

@@ -1,5 +1,5 @@
 -- What a sync of a map promises, and a put with a sync.
-use Rattle.std.specs.Prelude.{◌≡◌, ◌⊎◌, ◌≤◌, ◌+◌, ◌<◌, ◌^◌, ⊤, ℕ, true, false, Result, Ok, Err}
+use Rattle.std.specs.Prelude.{◌≡◌, ◌⊎◌, ◌≤◌, ◌+◌, ◌<◌, ◌^◌, ⊤, true, false, Result, Ok, Err}
 use Rattle.std.specs.Result.{IsErrOf}
 use Rattle.std.specs.BTreeMap.{insert_entry}
 use Rattle.blob_device.specs.Change.{written}

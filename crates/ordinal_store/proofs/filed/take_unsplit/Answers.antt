@@ -7,8 +7,8 @@ cut_back-requires c = record { sound = c.requires.sound; forward = c.requires.fo
 pub take_whole-requires : goal.take_whole-requires
 take_whole-requires c = record { sound = c.cut_back.ensures.sound; clear = c.cut_back.ensures.clear }
 
-pub cut_prefix-requires : goal.cut_prefix-requires
-cut_prefix-requires c =
+pub cut_below-requires : goal.cut_below-requires
+cut_below-requires c =
     let left = c.take_whole.ensures.taking in
     record { sound = left.sound; forward = c.requires.forward; clear = left.clear; none = c.take_whole.ensures.none }
 

@@ -1,8 +1,8 @@
-use Rattle.std.proofs.Common.{◌≡◌, ◌∙◌, ◌++◌, ◌∷◌, [], ℕ, ◌<◌, ◌^◌, List, length, sym, ap, subst, arith}
+use Rattle.std.proofs.Common.{◌≡◌, ◌∙◌, ◌++◌, ℕ, List, sym, ap, subst, arith}
 use Rattle.std.specs.Int.{w64, to_be_bytes}
 use Rattle.std.specs.List.{AllByRecursion}
 use Rattle.std.proofs.lemmas.List.{append-nil, append_assoc}
-use Rattle.meta_store.specs.Format.{Format, format_of}
+use Rattle.meta_store.specs.Format.{format_of}
 use Rattle.meta_store.specs.Copies.{IsStorable, entry_bytes, entries_bytes, body_bytes}
 use Rattle.meta_store.proofs.metadata.Metadata.body.Goals as goal
 

@@ -1,4 +1,4 @@
-use Rattle.std.proofs.Common.{◌≡◌, ◌∙◌, ◌++◌, List, sym, ap, arith}
+use Rattle.std.proofs.Common.{◌∙◌, ◌++◌, ap, arith}
 use Rattle.meta_store.specs.Copies.{copy_bytes, form_of}
 use Rattle.meta_store.proofs.Texts.{copy_written}
 use Rattle.meta_store.proofs.metadata.Metadata.copy.Goals as goal

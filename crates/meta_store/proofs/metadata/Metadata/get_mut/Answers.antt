@@ -1,6 +1,5 @@
 use Rattle.std.proofs.Common.{◌∙◌, refl, inl, inr, ap}
 use Rattle.std.specs.BTreeMap.{BTreeMap, get_by}
-use Rattle.meta_store.specs.declared.metadata.Metadata.{Metadata}
 use Rattle.meta_store.proofs.Inserting.{Marked, wrote_value, wrote_none, marked_entries}
 use Rattle.meta_store.proofs.metadata.Metadata.get_mut.Goals as goal
 use Rattle.meta_store.proofs.metadata.Metadata.get_mut.Goals.{then-contains_key, else-contains_key}

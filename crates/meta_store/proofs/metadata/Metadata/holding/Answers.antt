@@ -1,7 +1,5 @@
-use Rattle.std.proofs.Common.{◌≡◌, ◌∙◌, ◌++◌, ◌∷◌, [], List, refl, sym, ap, arith}
+use Rattle.std.proofs.Common.{◌≡◌, ◌∙◌, ◌++◌, List, refl, sym, ap, arith}
 use Rattle.std.proofs.lemmas.List.{append-nil, nil_from_length}
-use Rattle.meta_store.specs.declared.pair.Chosen.{Chosen}
-use Rattle.meta_store.specs.Opening.{Holds}
 use Rattle.meta_store.specs.Store.{seen}
 use Rattle.meta_store.proofs.Inserting.{inserted_last}
 use Rattle.meta_store.proofs.InitsLemmas.{holding_short}

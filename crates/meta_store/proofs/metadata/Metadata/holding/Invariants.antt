@@ -1,4 +1,4 @@
-use Rattle.std.proofs.Common.{◌≡◌, ◌++◌, List}
+use Rattle.std.proofs.Common.{◌≡◌, ◌++◌}
 use Rattle.meta_store.proofs.metadata.Metadata.holding.Given as goal
 
 abbrev pub invariant-entries : goal.invariant-entries

@@ -1,4 +1,4 @@
-use Rattle.std.proofs.Common.{Option, ◌-◌, ◌<◌, IfSome, length-take, length-drop, ◌≡◌, ◌∙◌, ℕ, ◌+◌, ◌≤◌, ◌∷◌, [], ◌++◌, List, length, take, drop, Some, None, refl, sym, ap, subst, arith, rules}
+use Rattle.std.proofs.Common.{Option, ◌-◌, ◌<◌, IfSome, length-take, length-drop, ◌≡◌, ◌∙◌, ℕ, ◌+◌, ◌≤◌, ◌∷◌, [], ◌++◌, List, length, take, drop, Some, refl, sym, ap, subst, arith, rules}
 use Rattle.std.specs.List.{AllByRecursion}
 use Rattle.std.specs.List.Sorted.{IsStrictlySortedBy}
 use Rattle.std.specs.Map.{keys_of}

@@ -1,4 +1,4 @@
-use Rattle.std.proofs.Common.{◌≡◌, ◌∙◌, ℕ, ◌+◌, ◌-◌, List, Some, length, take, drop, sym, ap, arith}
+use Rattle.std.proofs.Common.{◌≡◌, ◌∙◌, ℕ, ◌+◌, Some, length, take, drop, sym, ap, arith}
 use Rattle.meta_store.specs.Copies.{entry_bytes}
 use Rattle.value_codec.specs.declared.codec.Error.TheVariants.{Mem}
 use Rattle.meta_store.proofs.EntryTexts.{length-entry, entry_found, part_room, part_key, part_spelled, part_same_size, not_refused, decoded_same}

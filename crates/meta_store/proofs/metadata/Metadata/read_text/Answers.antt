@@ -1,4 +1,4 @@
-use Rattle.std.proofs.Common.{◌-◌, ℕ, List, Option, IfSome, length, take, drop, subst, arith}
+use Rattle.std.proofs.Common.{◌-◌, List, Option, IfSome, length, take, drop, subst, arith}
 use Rattle.meta_store.specs.Copies.{IsEntries}
 use Rattle.meta_store.specs.Format.{format_of}
 use Rattle.meta_store.specs.lemmas.Readings.{text_formless, text_given, text_refused, text_short}

@@ -1,4 +1,4 @@
-use Rattle.std.proofs.Common.{◌≡◌, ◌<◌, ◌≤◌, length, arith, rules}
+use Rattle.std.proofs.Common.{arith, rules}
 use Rattle.meta_store.specs.Entries.{AnswersAt, Retained}
 use Rattle.meta_store.specs.Format.{format_of}
 use Rattle.meta_store.specs.Store.{seen}

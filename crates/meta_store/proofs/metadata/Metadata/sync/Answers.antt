@@ -5,7 +5,6 @@ use Rattle.meta_store.proofs.Failing.{err_memory, err_seen}
 use Rattle.meta_store.proofs.OpenedSides.{grew_at, grew_opened, opened_at}
 use Rattle.meta_store.proofs.SyncsLemmas.{all_synced, full_syncs, idle_syncs, settle_failed, short_syncs, write_failed}
 use Rattle.meta_store.proofs.metadata.Metadata.sync.Goals as goal
-use Rattle.blob_device.proofs.general.Results.{err_of}
 
 pub returns-then-not-self : goal.returns-then-not-self
 returns-then-not-self g c = idle_syncs g.D.Device (format_of g.K.Ord.cmp g.K.Key.key_bytes g.V.Codec g.S.Seal) (seen c.args.self) c.args.dev.now c.requires.opened c.if-not-self.true

@@ -1,5 +1,5 @@
 use Rattle.std.proofs.Common.{arith}
-use Rattle.meta_store.specs.lemmas.Forms.{named_floored, named_plain, none_cut, none_short}
+use Rattle.meta_store.specs.lemmas.Forms.{named_floored, named_plain, none_short}
 use Rattle.meta_store.proofs.metadata.reading.form_in.Goals as goal
 
 pub returns-then-bytes-clause-none : goal.returns-then-bytes-clause-none

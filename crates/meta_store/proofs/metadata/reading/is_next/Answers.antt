@@ -1,6 +1,5 @@
-use Rattle.std.proofs.Common.{◌≡◌, ◌∙◌, ◌∷◌, [], ◌++◌, List, Some, None, sym, ap, subst, IsTrue, refl, Bool}
+use Rattle.std.proofs.Common.{◌∙◌, [], sym, ap, refl}
 use Rattle.std.specs.Option.{option_copied}
-use Rattle.std.specs.List.Sorted.{IsStrictlySortedBy}
 use Rattle.std.specs.Map.{keys_of}
 use Rattle.meta_store.proofs.Ascending.{less_true, true_less, sorted_push, sorted_below, last_below, below_last, none_last, no_keys}
 use Rattle.meta_store.proofs.metadata.reading.is_next.Goals as goal

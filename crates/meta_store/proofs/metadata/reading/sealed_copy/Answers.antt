@@ -1,5 +1,5 @@
-use Rattle.std.proofs.Common.{◌≡◌, ◌∙◌, sym, arith}
-use Rattle.meta_store.specs.lemmas.Texts.{absent_cut, absent_formless, absent_unsealed, sealed_found, start_of}
+use Rattle.std.proofs.Common.{◌∙◌, sym, arith}
+use Rattle.meta_store.specs.lemmas.Texts.{absent_cut, absent_formless, absent_unsealed, sealed_found}
 use Rattle.meta_store.proofs.metadata.reading.sealed_copy.Goals as goal
 
 pub returns-in_default-clause-none : goal.returns-in_default-clause-none

@@ -1,4 +1,4 @@
-use Rattle.std.proofs.Common.{◌≡◌, ◌∙◌, ◌++◌, ◌^◌, ◌-◌, min, List, length, sym, ap, arith}
+use Rattle.std.proofs.Common.{◌∙◌, ◌++◌, ap, arith}
 use Rattle.meta_store.proofs.EntryTexts.{entry_written}
 use Rattle.meta_store.proofs.metadata.writing.write_entry.Goals as goal
 
