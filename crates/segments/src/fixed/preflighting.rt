@@ -234,9 +234,11 @@ impl<A: CodecFixed, S: Seal> Preflight<A, S> {
         requires ready { AreCheckable ⟦<PageBlob<S> as SectionBuffer>⟧
             ⟦<AppendFactory<S> as BufferFactory>⟧.gives S.seal_of D.Tells
             (journal_of self).sections (D.opened dev.old) (disk (D.time dev.old)) }
-        ensures { ChecksMarker preflight_shown (λ r. (journal_of r).sections) (preflight_shown self).floor_of
-            (preflight_shown self).boundary_of (preflight_shown self).target (journal_of self).sections section
-            S.seal_of (preflight_shown self).pages.page_size A.SIZE (preflight_shown self).partition A.spelling A.accepted A.refusal D.Device
+        ensures { ChecksMarker preflight_shown (λ r. (journal_of r).sections)
+            (preflight_shown self).floor_of (preflight_shown self).boundary_of
+            (preflight_shown self).target (journal_of self).sections section
+            S.seal_of (preflight_shown self).pages.page_size A.SIZE
+            (preflight_shown self).partition A.spelling A.accepted A.refusal D.Device
             ⟦<PageBlob<S> as SectionBuffer>⟧ ⟦<AppendFactory<S> as BufferFactory>⟧.gives
             items dev.old dev.new result }
     {
@@ -259,9 +261,9 @@ impl<A: CodecFixed, S: Seal> Preflight<A, S> {
     pub(super) fn with_floor(self, section: u64, floor: u64, item: Option<A>) -> Result<Self, Error>
         requires whole { floor % A.SIZE ≡ 0 }
         requires bounded { section ≤ (preflight_shown self).ceiling }
-        ensures { TakesFloor preflight_shown (λ r. (journal_of r).sections) (preflight_shown self).floor_of
-            (preflight_shown self).boundary_of (preflight_shown self).target (journal_of self).sections section floor
-            item result }
+        ensures { TakesFloor preflight_shown (λ r. (journal_of r).sections)
+            (preflight_shown self).floor_of (preflight_shown self).boundary_of
+            (preflight_shown self).target (journal_of self).sections section floor item result }
     {
         let mut this = self;
         let journal = &mut this.journal;
