@@ -1,7 +1,7 @@
 -- Numbers in a list, and the names of blobs that spell them.
 use Rattle.std.specs.Prelude.{◌≡◌, ℕ, length}
 use Rattle.std.specs.Int.{w64, to_be_bytes}
-use Rattle.std.proofs.Common.{rules}
+use Rattle.std.proofs.Common.{refl}
 
 pub length-number_name : (n : ℕ) → length (to_be_bytes w64 n) ≡ 8
 length-number_name n = refl
