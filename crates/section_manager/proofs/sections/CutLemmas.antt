@@ -1,5 +1,5 @@
 -- What cuts of sections make of a manager.
-use Rattle.std.specs.Prelude.{◌≡◌, ◌⊎◌, ℕ, ◌≤◌, true, false, Option, None, Some, IsSome, IsSomeAnd, Result, OnErr}
+use Rattle.std.specs.Prelude.{◌≡◌, ◌⊎◌, ℕ, ◌≤◌, Option, None, Some, IsSome, IsSomeAnd, Result, OnErr}
 use Rattle.std.proofs.Common.{inl, inr, Err, sym, ◌∙◌, ap, subst, arith}
 use Rattle.std.specs.Option.{unwrap_or, is_some}
 use Rattle.std.proofs.lemmas.Bool.{false≢true}
