@@ -6,7 +6,7 @@ use Rattle.blob_device.specs.Disk.{Blob, Disk, MayLeave, past, reads}
 use Rattle.blob_device.specs.Opened.{OpenedList}
 use Rattle.sealed_pages.specs.ChanceSeal as pages
 use Rattle.sealed_pages.specs.Contents.{IsHad}
-use Rattle.sealed_pages.specs.Cutting.{IsAtRest}
+use Rattle.sealed_pages.specs.Cutting.{StandsSettled}
 use Rattle.sealed_pages.specs.declared.page_blob.PageBlob.{PageBlob}
 use Rattle.sealed_pages.specs.declared.write_blob.WriteBlob.{WriteBlob}
 use Rattle.section_manager.specs.declared.buffer.SectionBuffer as buffer
@@ -72,7 +72,7 @@ left_there b stays = go b.there refl
 
 -- ---- a disk
 module _ (l : Layout) (d : Disk) (index : (s : ℕ) → s < 2 ^ 64 → ReadsAsHad (d (section_key l.index s))) (values : (s : ℕ) → s < 2 ^ 64 → ReadsAsHad (d (section_key l.values s)))
-    (copies : (side : Side) → IsAtRest (d (blob_of l.metadata side))) where
+    (copies : (side : Side) → StandsSettled (d (blob_of l.metadata side))) where
   slots_read : (s : ℕ) → s < 2 ^ 64 → pages.NoChanceSeal l.seal l.page_size (past (d (section_key l.index s))) (content_at (as_read d) l.index s)
   slots_read s small = of_read (pages.NoChanceSeal l.seal l.page_size) (d (section_key l.index s)) (index s small) (no_chance l.seal l.page_size) (no_slots l.seal l.page_size)
 
@@ -123,10 +123,10 @@ module _ {F S : Type 0} {gs : _} (a : Archive F (PageBlob S gs)) {g : buffer.Gho
     | inr some ↦ subst (λ (p : List ℕ). ReadsAsHad (d (section_key p s))) values (values_held s some.0 some.1)
   ]
 
-  copy_rest : (side : Side) → IsAtRest (d (blob_of a.pair.layout.metadata side))
-  copy_rest side = subst (λ (p : List ℕ). IsAtRest (d (blob_of p side))) store (go side)
+  copy_rest : (side : Side) → StandsSettled (d (blob_of a.pair.layout.metadata side))
+  copy_rest side = subst (λ (p : List ℕ). StandsSettled (d (blob_of p side))) store (go side)
     where
-      go : (x : Side) → IsAtRest (d (blob_of a.pair.store.partition x))
+      go : (x : Side) → StandsSettled (d (blob_of a.pair.store.partition x))
       go Left = (archive.pair.disk t).markers.left
       go Right = (archive.pair.disk t).markers.right
 

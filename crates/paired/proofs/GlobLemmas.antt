@@ -4,7 +4,7 @@ use Rattle.std.proofs.Common.{inr, refl, sym, ◌∙◌, ap, subst, arith}
 use Rattle.std.proofs.lemmas.List.{length-take, take-append-le}
 use Rattle.blob_device.specs.Disk.{Blob, past}
 use Rattle.sealed_pages.specs.declared.write_blob.WriteBlob.{WriteBlob}
-use Rattle.sealed_pages.specs.Cutting.{IsAtRest}
+use Rattle.sealed_pages.specs.Cutting.{StandsSettled}
 use Rattle.sealed_pages.specs.unsealed.Writing.{shown, is_idle, StandsBehind}
 use Rattle.section_manager.specs.Prefixes.{IsPrefixOf}
 use Rattle.section_manager.specs.unsealed.Buffer.{Stands, content_of, is_unsettled}
@@ -36,8 +36,8 @@ prefix_longer c bytes added prefix = take-append-le (length c) bytes added (omeg
 pub prefixes_longer : (bytes added : List ℕ) (b : Blob) → HadPrefixes bytes b → HadPrefixes (bytes ++ added) b
 prefixes_longer bytes added b had = all_weaker (λ c. IsPrefixOf c bytes) (λ c. IsPrefixOf c (bytes ++ added)) (past b) (λ c prefix. prefix_longer c bytes added prefix) had
 
--- a blob at rest, over which a new buffer would have the same bytes
-pub rested_prefixes : (u : WriteBlob) (b : Blob) → IsAtRest b → b.content ≡ content_of u b.content → HadPrefixes (content_of u b.content) b
+-- a settled blob, over which a new buffer would have the same bytes
+pub rested_prefixes : (u : WriteBlob) (b : Blob) → StandsSettled b → b.content ≡ content_of u b.content → HadPrefixes (content_of u b.content) b
 rested_prefixes u b rests again = subst (HadPrefixes (content_of u b.content)) (sym rests) (subst (IsPrefixOf b.content) again (prefix_itself b.content), tt)
 
 -- so is one of which nothing is unsettled

@@ -13,7 +13,7 @@ use Rattle.sealed_pages.specs.declared.page_blob.PageBlob.{PageBlob}
 use Rattle.sealed_pages.specs.declared.write_blob.WriteBlob.{WriteBlob}
 use Rattle.sealed_pages.specs.Shown.{shown}
 use Rattle.sealed_pages.specs.ChanceSeal as pages
-use Rattle.sealed_pages.specs.Cutting.{IsAtRest}
+use Rattle.sealed_pages.specs.Cutting.{StandsSettled}
 use Rattle.sealed_pages.specs.SealedPrefix.{sealed_prefix, Prefix}
 use Rattle.section_manager.specs.declared.buffer.SectionBuffer as buffer
 use Rattle.section_manager.specs.declared.unsealed.WriteFactory.{WriteFactory}
@@ -38,15 +38,15 @@ use Rattle.paired.specs.Pair.{AreApart}
 use Rattle.paired.proofs.ReplayLemmas.{records_of_items}
 use Rattle.blob_device.proofs.general.Options.{none_or_value}
 
--- ---- a blob at rest
-rest_settled : (b : Blob) → IsAtRest b → IsSettled b
+-- ---- a settled blob
+rest_settled : (b : Blob) → StandsSettled b → IsSettled b
 rest_settled b rest = record { sure = ap (λ (x : Blob). x.unsure) rest; since = ap (λ (x : Blob). x.since) rest; loose = ap (λ (x : Blob). x.loose) rest; content = sym (ap (λ (x : Blob). x.settled) rest) }
 
-rest_reads : (b : Blob) → IsAtRest b → reads b ≡ Some b.content
+rest_reads : (b : Blob) → StandsSettled b → reads b ≡ Some b.content
 rest_reads b rest = ap reads rest
 
 -- each crash leaves it as it reads
-rest_left : (b : Blob) → IsAtRest b → (left : Option (List ℕ)) → MayLeave b left → left ≡ Some b.content
+rest_left : (b : Blob) → StandsSettled b → (left : Option (List ℕ)) → MayLeave b left → left ≡ Some b.content
 rest_left b rest left may = left_as_read b (rest_settled b rest) left may ∙ rest_reads b rest
 
 -- of one that no crash leaves a byte in, nothing is left
@@ -88,7 +88,7 @@ kept_as l old image markers s there records_same values =
     }
 
 -- ---- a moment of the walk
--- Over parts that are at rest: whether by markers, up to a ceiling or neither.
+-- Over parts that are settled: whether by markers, up to a ceiling or neither.
 module _ {F S : Type 0} {gs : _} {g : buffer.Ghosts (PageBlob S gs)} {gives : F → Setting} {takes : WriteFactory → Setting} {told : Type 0} {opened : OpenedList} (l : Layout) (w : Walk F (PageBlob S gs)) (m : Sections WriteFactory WriteBlob) (d x : Disk)
     (rests : Rests g gives takes told l w.journal.sections m opened d) (apart : AreApart l) (t : told)
     (reads_so : (q : Key) → MayLeave (d q) (reads (d q))) (may_open : MayBeOpened l d) (moment : Each (Replaying l.seal l.record_size w d) x) where
@@ -157,7 +157,7 @@ module _ {F S : Type 0} {gs : _} {g : buffer.Ghosts (PageBlob S gs)} {gives : F 
           let gone : (d (section_key l.values s)).there ≡ false = values_absent rests t s small none in
           nothing_left (d (section_key l.values s)) (may_open.values_absent s small gone) (image (section_key l.values s)) values_left ∙ sym (absent_reads (d (section_key l.values s)) gone)
       | inr some ↦
-          let rest : IsAtRest (d (section_key l.values s)) = (values_rest rests t s some.0 some.1).0 in
+          let rest : StandsSettled (d (section_key l.values s)) = (values_rest rests t s some.0 some.1).0 in
           ap (λ (o : Option (List ℕ)). unwrap_or o []) (rest_left (d (section_key l.values s)) rest (image (section_key l.values s)) values_left ∙ sym (rest_reads (d (section_key l.values s)) rest))
     ]
 

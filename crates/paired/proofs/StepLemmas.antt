@@ -7,7 +7,7 @@ use Rattle.blob_device.specs.Opened.{OpenedList}
 use Rattle.std.specs.Option.{is_some}
 use Rattle.blob_device.specs.Timeline.{Timeline, disk, Always, OnlyAt, Each}
 use Rattle.blob_device.specs.lemmas.Moments.{always_weaker}
-use Rattle.sealed_pages.specs.Cutting.{IsAtRest}
+use Rattle.sealed_pages.specs.Cutting.{StandsSettled}
 use Rattle.sealed_pages.specs.declared.write_blob.WriteBlob.{WriteBlob}
 use Rattle.section_manager.specs.declared.unopened.Unopened.{Unopened}
 use Rattle.section_manager.specs.declared.unopened.Unopened.TheVariants.{Section, Leftover}
@@ -75,8 +75,8 @@ module _ {F : Type 0} (gives : F → Setting) {told : Type 0} (m n : Sections F 
       unopened
 
   module _ (s : ℕ) (u v : WriteBlob) (was : m.held s ≡ Some u) (is : n.held s ≡ Some v) where
-    settled_as : IsAtRest (e (key_of m s)) → (e (key_of m s)).content ≡ content_of v (e (key_of m s)).content → HasSettled n e s
-    settled_as rests again = has_settled n e s v is (subst (λ (k : Key). IsAtRest (e k)) (sym (stays_key s)) rests)
+    settled_as : StandsSettled (e (key_of m s)) → (e (key_of m s)).content ≡ content_of v (e (key_of m s)).content → HasSettled n e s
+    settled_as rests again = has_settled n e s v is (subst (λ (k : Key). StandsSettled (e k)) (sym (stays_key s)) rests)
         (subst (λ (k : Key). (e k).content ≡ content_of v (e k).content) (sym (stays_key s)) again)
 
     pub synced_bytes : told → IsSynced buffers told u v (d (key_of m s)) (e (key_of m s)) → section_bytes n e s ≡ section_bytes m d s

@@ -4,7 +4,7 @@ use Rattle.std.specs.Result.{IsErrOf}
 use Rattle.blob_device.specs.Disk.{Key, Disk}
 use Rattle.blob_device.specs.Timeline.{Timeline, disk, Always}
 use Rattle.blob_device.specs.declared.runtime.RError.TheVariants.{Fault}
-use Rattle.sealed_pages.specs.Cutting.{IsAtRest}
+use Rattle.sealed_pages.specs.Cutting.{StandsSettled}
 use Rattle.sealed_pages.specs.declared.page_blob.PageBlob.{PageBlob}
 use Rattle.section_manager.specs.Sections.{section_key, IsHeld}
 use Rattle.section_manager.specs.declared.journal.Error.{Error}
@@ -22,9 +22,9 @@ StopsAtMarkers result before now = IsErrOf result Full ⊎ HasLostMarkers result
 
 module _ {F S : Type 0} {gs : _} (p : Pair F (PageBlob S gs)) (IsNamed : ℕ → Type 0) where
   -- the blobs of the named sections that are held have settled
-  pub record AreAtRest (d : Disk) : Type 0 where
-    pub index : (s : ℕ) → IsNamed s → IsHeld p.index.sections s → IsAtRest (d (section_key p.layout.index s))
-    pub values : (s : ℕ) → IsNamed s → IsHeld p.values s → IsAtRest (d (section_key p.layout.values s))
+  pub record StandSettled (d : Disk) : Type 0 where
+    pub index : (s : ℕ) → IsNamed s → IsHeld p.index.sections s → StandsSettled (d (section_key p.layout.index s))
+    pub values : (s : ℕ) → IsNamed s → IsHeld p.values s → StandsSettled (d (section_key p.layout.values s))
 
   -- how much is synced of each section after a sync of the named ones: of these all
   pub record IsSyncedAfter (synced : ℕ → ℕ) : Type 0 where
@@ -36,7 +36,7 @@ module _ {F S : Type 0} {gs : _} (p : Pair F (PageBlob S gs)) (IsNamed : ℕ →
   -- whole lists.
   pub record FaultsInOrder {T : Type 0} (result : Result T Error) (before now : ℕ) (old new : Timeline) : Type 0 where
     pub sections : IsErrOf result (Runtime Fault) → Always old new (λ d. (q : Key) → IsCopy p.layout q → d q ≡ disk old q)
-    pub at_rest : StopsAtMarkers result before now → AreAtRest (disk new)
+    pub stands_settled : StopsAtMarkers result before now → StandSettled (disk new)
     pub leaves : StopsAtMarkers result before now → IsSafeOn p (disk old) → (synced : ℕ → ℕ) → IsSyncedAfter synced → Leaves p.layout (list_of p (disk old)) synced (λ _. ⊥) (disk new)
 
 -- The markers below the bound were dropped, durably: the copies have settled, and hold the others and the floor, as they were, and no more.

@@ -14,7 +14,7 @@ use Rattle.sealed_pages.specs.Calls.{FailsBelow}
 use Rattle.sealed_pages.specs.ChanceSeal.{Sealing}
 use Rattle.sealed_pages.specs.Cuts.{CutsPages, CutsInside, ReadsHead}
 use Rattle.sealed_pages.specs.CutsTo.{CutsAt, CutsWithin, ended_with}
-use Rattle.sealed_pages.specs.Cutting.{IsAtRest, page_cut, FewReads}
+use Rattle.sealed_pages.specs.Cutting.{StandsSettled, page_cut, FewReads}
 use Rattle.sealed_pages.specs.Entries.{IsOpenAt}
 use Rattle.sealed_pages.specs.Flushing.{Alone, Data, Ready}
 use Rattle.sealed_pages.specs.SealedPrefix.{adopted_size}
@@ -48,7 +48,7 @@ module _ {D : Type 0} (dev : device.Ghosts D) (seal : List ℕ → ℕ) (u : Buf
     pages : {T : Type 0} (r : Result T DevError) → CutsPages dev seal P blob old new page r → CutsPages dev seal u.page_size (key_of u) old new page r
     pages r says = as_of (λ (k : Key) (p : ℕ). CutsPages dev seal p k old new page r) key size says
 
-    at_crash : {T : Type 0} (r : Result T DevError) → CutsPages dev seal u.page_size (key_of u) old new page r → dev.Tells → IsAtRest (blob_of u (dev.time old)) → page_at u.page_size page ≤ length (blob_of u (dev.time old)).content
+    at_crash : {T : Type 0} (r : Result T DevError) → CutsPages dev seal u.page_size (key_of u) old new page r → dev.Tells → StandsSettled (blob_of u (dev.time old)) → page_at u.page_size page ≤ length (blob_of u (dev.time old)).content
         → page * u.page_size ≤ length (prefix_of seal u (dev.time old)) → Sealing seal u.page_size (prefix_of seal u (dev.time old)) (page * u.page_size) (key_of u) (dev.time old) (dev.time new)
     at_crash r says t rest long inside = sealing_less seal u.page_size (prefix_of seal u (dev.time old)) (min (page * u.page_size) (length (prefix_of seal u (dev.time old)))) (page * u.page_size) (key_of u) (dev.time old) (dev.time new)
         (omega (arith, inside)) (says.crashes t rest long)
@@ -168,7 +168,7 @@ module _ {D : Type 0} (dev : device.Ghosts D) (seal : List ℕ → ℕ) (u : Buf
       to_keep : page * u.page_size + length h.bytes.items ≡ page * u.page_size + keep
       to_keep = ap (λ (m : ℕ). page * u.page_size + m) read.long
 
-      within_crash : (r : Result ℕ DevError) → Cut r → dev.Tells → IsAtRest (blob_of u (dev.time old)) → page * u.page_size + keep ≤ length (prefix_of seal u (dev.time old))
+      within_crash : (r : Result ℕ DevError) → Cut r → dev.Tells → StandsSettled (blob_of u (dev.time old)) → page * u.page_size + keep ≤ length (prefix_of seal u (dev.time old))
           → Sealing seal u.page_size (prefix_of seal u (dev.time old)) (page * u.page_size + keep) (key_of u) (dev.time old) (dev.time new)
       within_crash r cut t rest inside = subst (λ (m : ℕ). Sealing seal u.page_size (prefix_of seal u (dev.time old)) m (key_of u) (dev.time old) (dev.time new)) to_keep
           (look_then seal u.page_size pos (key_of u) (dev.time old) (dev.time mid) (read.unchanged t) page (is_b h.slot) h.bytes.items (dev.time new) (cut.crashes t) rest (read.best t) (covers t) (page_is t) (omega (arith, inside, to_keep)))

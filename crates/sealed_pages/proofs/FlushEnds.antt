@@ -6,7 +6,7 @@ use Rattle.blob_device.specs.declared.error.DevError.{DevError}
 use Rattle.sealed_pages.specs.Buffer.{Buffer, key_of, size_of, flushed_of, bytes_of, has_leftover, Holds, IsBacked}
 use Rattle.sealed_pages.specs.Cached.{AreFull}
 use Rattle.sealed_pages.specs.ChanceSeal.{Sealing}
-use Rattle.sealed_pages.specs.Cutting.{IsAtRest}
+use Rattle.sealed_pages.specs.Cutting.{StandsSettled}
 use Rattle.sealed_pages.specs.Entries.{IsOpenAt, NoReads}
 use Rattle.sealed_pages.specs.Flushes.{Repairs, WritesTip, Flushes}
 use Rattle.sealed_pages.specs.Flushing.{Data, Wrote}
@@ -117,7 +117,7 @@ module _ {D : Type 0} (dev : device.Ghosts D) (seal : List ℕ → ℕ) {B : Typ
         prefix_both : dev.Tells → SparesPrefix (page_at u.page_size u.first) (key_of u) (dev.time old) (dev.time new)
         prefix_both t = prefix_then (page_at u.page_size u.first) (key_of u) (dev.time old) (dev.time mid) (dev.time new) (repair.prefix t) (write.prefix t)
 
-        clears_both : dev.Tells → IsAtRest (blob_of u (dev.time old)) → Leftover seal u.page_size (blob_of u (dev.time old)).content u.first u.from u.newest u.behind u.torn
+        clears_both : dev.Tells → StandsSettled (blob_of u (dev.time old)) → Leftover seal u.page_size (blob_of u (dev.time old)).content u.first u.from u.newest u.behind u.torn
             → Always (dev.time old) (dev.time new) (OnlyAt (key_of u) (disk (dev.time old)) (ClearsFirst seal u.page_size u.first u.from u.newest))
         clears_both t rest left = clears_then seal u.page_size u.first u.from u.newest (key_of u) (dev.time old) (dev.time mid) (dev.time new) (repair.clears t rest) (repair.cleared t rest left) (write.stays t)
 

@@ -9,7 +9,7 @@ use Rattle.blob_device.specs.declared.error.DevError.{DevError}
 use Rattle.blob_device.specs.lemmas.Moments.{ok_blob}
 use Rattle.sealed_pages.specs.Buffer.{Adopted, pages_of}
 use Rattle.sealed_pages.specs.ChanceSeal.{Leaves, Sealing}
-use Rattle.sealed_pages.specs.Cutting.{IsAtRest}
+use Rattle.sealed_pages.specs.Cutting.{StandsSettled}
 use Rattle.sealed_pages.specs.Entries.{NoReads}
 use Rattle.sealed_pages.specs.Flushing.{Removed, IsClean, Data, Wrote, no_slot}
 use Rattle.sealed_pages.specs.Leftover.{OnlySlot, IsCleared}
@@ -96,7 +96,7 @@ module _ {D : Type 0} (dev : device.Ghosts D) (seal : List ℕ → ℕ) (P : ℕ
       torn_prefix : {r : Result ℕ DevError} → ClearsTorn dev seal P blob mid last first (not newest) torn r → dev.Tells → SparesPrefix (page_at P first) blob (dev.time old) (dev.time last)
       torn_prefix clear t = prefix_then (page_at P first) blob (dev.time old) (dev.time mid) (dev.time last) (cut_prefix cut t) (clear.prefix t)
 
-      torn_only : {r : Result ℕ DevError} → ClearsTorn dev seal P blob mid last first (not newest) torn r → dev.Tells → IsAtRest (disk (dev.time old) blob) → Always (dev.time old) (dev.time last) (OnlyAt blob (disk (dev.time old)) (OnlySlot (slot_at P first (not newest))))
+      torn_only : {r : Result ℕ DevError} → ClearsTorn dev seal P blob mid last first (not newest) torn r → dev.Tells → StandsSettled (disk (dev.time old) blob) → Always (dev.time old) (dev.time last) (OnlyAt blob (disk (dev.time old)) (OnlySlot (slot_at P first (not newest))))
       torn_only clear t rest = slot_then (slot_at P first (not newest)) blob (dev.time old) (dev.time mid) (dev.time last) (cut.loose t (slot_at P first (not newest)) rest) (λ only. clear.loose t only)
 
       torn_entries : {r : Result ℕ DevError} → ClearsTorn dev seal P blob mid last first (not newest) torn r → NoReads blob (dev.opened old) (dev.opened last)
@@ -125,7 +125,7 @@ module _ {D : Type 0} (dev : device.Ghosts D) (seal : List ℕ → ℕ) (P : ℕ
         settle_prefix : {r : Result (Unit {0}) DevError} → Passes blob Settle r (dev.time last) (dev.time new) → dev.Tells → SparesPrefix (page_at P first) blob (dev.time old) (dev.time new)
         settle_prefix {r = r} passes t = prefix_settle (page_at P first) blob (dev.time old) (dev.time last) (dev.time new) r (torn_prefix clear t) passes
 
-        settle_only : {r : Result (Unit {0}) DevError} → Passes blob Settle r (dev.time last) (dev.time new) → dev.Tells → IsAtRest (disk (dev.time old) blob) → Always (dev.time old) (dev.time new) (OnlyAt blob (disk (dev.time old)) (OnlySlot (slot_at P first (not newest))))
+        settle_only : {r : Result (Unit {0}) DevError} → Passes blob Settle r (dev.time last) (dev.time new) → dev.Tells → StandsSettled (disk (dev.time old) blob) → Always (dev.time old) (dev.time new) (OnlyAt blob (disk (dev.time old)) (OnlySlot (slot_at P first (not newest))))
         settle_only {r = r} passes t rest = slot_settle (slot_at P first (not newest)) blob (dev.time old) (dev.time last) (dev.time new) r (torn_only clear t rest) passes
 
         settle_entries : NoReads blob (dev.opened old) (dev.opened new)

@@ -14,7 +14,7 @@ use Rattle.blob_device.specs.lemmas.Moments.{ok_blob}
 use Rattle.sealed_pages.specs.Buffer.{Buffer, key_of, size_of, flushed_of, bytes_of, Holds, IsBacked, IsSealed, AddsPages}
 use Rattle.sealed_pages.specs.Calls.{FailsBelow}
 use Rattle.sealed_pages.specs.ChanceSeal.{Leaves, Sealing}
-use Rattle.sealed_pages.specs.Cutting.{IsAtRest}
+use Rattle.sealed_pages.specs.Cutting.{StandsSettled}
 use Rattle.sealed_pages.specs.Entries.{IsOpenAt, NoReads}
 use Rattle.sealed_pages.specs.Flushes.{Flushes}
 use Rattle.sealed_pages.specs.Flushing.{Alone, last_slot}
@@ -120,7 +120,7 @@ module _ {D : Type 0} (dev : device.Ghosts D) (seal : List ℕ → ℕ) {B : Typ
           (subst (λ (i : ℕ × ℕ). Sealing seal i.0 meant i.1 (key_of u) (dev.time mid) (dev.time new)) (λ i. (flush.page_size i, flush.settled i))
           (holds_settle seal (see w) meant (key_of u) (dev.time mid) (dev.time new) x begun (flush.done t meant sealed.holds) (passes t)))
 
-      any_clears : dev.Tells → IsAtRest (blob_of u (dev.time old)) → Leftover seal u.page_size (blob_of u (dev.time old)).content u.first u.from u.newest u.behind u.torn
+      any_clears : dev.Tells → StandsSettled (blob_of u (dev.time old)) → Leftover seal u.page_size (blob_of u (dev.time old)).content u.first u.from u.newest u.behind u.torn
           → Always (dev.time old) (dev.time new) (OnlyAt (key_of u) (disk (dev.time old)) (ClearsFirst seal u.page_size u.first u.from u.newest))
       any_clears t rest left = clears_settle seal u.page_size u.first u.from u.newest (key_of u) (dev.time old) (dev.time mid) (dev.time new) x (flush.clears t rest left) (passes t)
 

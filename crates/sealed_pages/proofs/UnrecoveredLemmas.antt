@@ -13,7 +13,7 @@ use Rattle.sealed_pages.specs.lemmas.slots.SealedBytes.{rest}
 use Rattle.sealed_pages.specs.lemmas.slots.Slot.{slot_stands}
 use Rattle.sealed_pages.specs.lemmas.slots.Steps.{slot_low}
 use Rattle.sealed_pages.specs.Buffer.{Buffer, pages_of, IsBacked}
-use Rattle.sealed_pages.specs.Cutting.{IsAtRest}
+use Rattle.sealed_pages.specs.Cutting.{StandsSettled}
 use Rattle.sealed_pages.specs.Found.{Finds}
 use Rattle.sealed_pages.specs.Starts.{StartsOver}
 use Rattle.sealed_pages.specs.declared.reading.LastPage.{LastPage}
@@ -48,7 +48,7 @@ module _ (seal : List ℕ → ℕ) (u : Buffer) (pos : 1 ≤ u.page_size) where
       | inr short ↦ spared_keeps seal u key a b un u.first un.below (prefix_look (page_at u.page_size u.first) key a b (refused short))
     ]
 
-    pub cut_stays : keep ≤ page_length seal u.page_size (disk a key).content j → (v : Buffer) → v.page_size ≡ u.page_size → v.first ≡ j → j * u.page_size ≤ v.settled → IsBacked seal v (disk b key).content → IsAtRest (disk b key) → IsUnrecovered seal v (disk b key)
+    pub cut_stays : keep ≤ page_length seal u.page_size (disk a key).content j → (v : Buffer) → v.page_size ≡ u.page_size → v.first ≡ j → j * u.page_size ≤ v.settled → IsBacked seal v (disk b key).content → StandsSettled (disk b key) → IsUnrecovered seal v (disk b key)
     cut_stays covered v same first settled backed rest = elim (behind_prefix seal u (disk a key) j keep pos un less) [
       | inl before ↦ spared_stays seal u key a b before.0 j before.1 spares v same (omega (arith, before.1, first)) (page_settled before.0.page j u.page_size v.settled before.1 settled) backed (λ e. rest) (had_rest (disk b key) rest)
       | inr short ↦ absurd (omega (arith, short, covered))

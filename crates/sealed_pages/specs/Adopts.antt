@@ -7,7 +7,7 @@ use Rattle.blob_device.specs.declared.runtime.RError.{RError}
 use Rattle.sealed_pages.specs.declared.pages.Pages.{Pages}
 use Rattle.sealed_pages.specs.Buffer.{Buffer, key_of, size_of, IsBacked, IsSealed}
 use Rattle.sealed_pages.specs.Calls.{FailsBelow}
-use Rattle.sealed_pages.specs.Cutting.{IsAtRest}
+use Rattle.sealed_pages.specs.Cutting.{StandsSettled}
 use Rattle.sealed_pages.specs.Entries.{IsOpenAt}
 use Rattle.sealed_pages.specs.Leftover.{Leftover, IsKnown}
 use Rattle.sealed_pages.specs.Reading.{Unchanged, OnlyRead}
@@ -35,18 +35,18 @@ module _ {D : Type 0} (dev : device.Ghosts D) (seal : List ℕ → ℕ) (blob : 
     -- what is in memory is as in the blob
     pub backed : dev.Tells → IfOk result (λ r. IsBacked seal (see r) here.content)
     -- Where the blob has settled, and its sealed prefix is the size, the promise on crashes begins.
-    pub sealed : dev.Tells → IsAtRest here → prefix_end ≡ found_end
+    pub sealed : dev.Tells → StandsSettled here → prefix_end ≡ found_end
         → IfOk result (λ r. IsSealed seal (see r) here)
     -- where the prefix is shorter, that prefix outlives each crash,
-    pub unrecovered : dev.Tells → IsAtRest here → prefix_end < found_end
+    pub unrecovered : dev.Tells → StandsSettled here → prefix_end < found_end
         → IfOk result (λ r. IsUnrecovered seal (see r) here)
     -- and there is no third case
-    pub adopted : dev.Tells → IsAtRest here → IfOk result (λ r. IsAdopted seal (see r) here)
+    pub adopted : dev.Tells → StandsSettled here → IfOk result (λ r. IsAdopted seal (see r) here)
     -- what a crash may have left in the blob is known
     pub leftover : dev.Tells → IfOk result (λ r. Leftover seal (see r).page_size here.content
         (see r).first (see r).from (see r).newest (see r).behind (see r).torn)
     -- also once more is appended, until it is removed
-    pub known : dev.Tells → IsAtRest here → IfOk result (λ r. IsKnown seal (see r) here)
+    pub known : dev.Tells → StandsSettled here → IfOk result (λ r. IsKnown seal (see r) here)
     -- no page is in memory,
     pub cache : IfOk result (λ r. (see r).cache ≡ [])
     -- and there is room for as many as the pages say

@@ -12,7 +12,7 @@ use Rattle.blob_device.specs.declared.runtime.RError.TheVariants.{InvalidChecksu
 use Rattle.sealed_pages.specs.declared.cut.Head.{Head}
 use Rattle.sealed_pages.specs.Calls.{FailsBelow}
 use Rattle.sealed_pages.specs.ChanceSeal.{Sealing}
-use Rattle.sealed_pages.specs.Cutting.{IsAtRest, page_cut, FewReads}
+use Rattle.sealed_pages.specs.Cutting.{StandsSettled, page_cut, FewReads}
 use Rattle.sealed_pages.specs.Entries.{IsOpenAt, NoReads}
 use Rattle.sealed_pages.specs.Flushing.{Alone, no_slot}
 use Rattle.sealed_pages.specs.Reading.{Unchanged}
@@ -46,7 +46,7 @@ module _ {D : Type 0} (dev : device.Ghosts D) (seal : List ℕ → ℕ) (P : ℕ
   pub record CutsPages {T : Type 0} (page : ℕ) (result : Result T DevError) : Type 0 where
     -- of a settled blob that reaches so far each crash leaves a prefix of the sealed prefix, with all
     -- of it that stands in these pages
-    pub crashes : dev.Tells → IsAtRest before → page_at P page ≤ length before.content
+    pub crashes : dev.Tells → StandsSettled before → page_at P page ≤ length before.content
         → Sealing seal P sealed_part (min (page * P) (length sealed_part)) blob early late
     -- it has settled with the pages before
     pub settles : dev.Tells
@@ -67,12 +67,12 @@ module _ {D : Type 0} (dev : device.Ghosts D) (seal : List ℕ → ℕ) (P : ℕ
   pub record CutsLater (page : ℕ) (result : Result ℕ DevError) : Type 0 where
     -- of a settled blob each crash leaves a prefix of the sealed prefix, with all of it that stands in
     -- these pages
-    pub crashes : dev.Tells → IsAtRest before
+    pub crashes : dev.Tells → StandsSettled before
         → Sealing seal P sealed_part (min (page * P) (length sealed_part)) blob early late
     -- it has the pages before
     pub content : dev.Tells → OnOk result (after.content ≡ take (page_at P page) before.content)
     -- it has settled, if it had
-    pub rests : dev.Tells → IsAtRest before → OnOk result (IsAtRest after)
+    pub rests : dev.Tells → StandsSettled before → OnOk result (StandsSettled after)
     -- no other blob changes
     pub alone : dev.Tells → Alone blob early late
     -- those pages stand as they did
@@ -90,7 +90,7 @@ module _ {D : Type 0} (dev : device.Ghosts D) (seal : List ℕ → ℕ) (P : ℕ
       (result : Result ℕ DevError) : Type 0 where
     -- Of the last page, beside the slot that covers it, and over first bytes that it covers, each
     -- crash leaves the sealed prefix.
-    pub crashes : dev.Tells → IsAtRest before → length before.content ≤ page_at P (page + 1)
+    pub crashes : dev.Tells → StandsSettled before → length before.content ≤ page_at P (page + 1)
         → best_slot seal P before.content page ≡ not second
         → length bytes ≤ page_length seal P before.content page
         → bytes ≡ take (length bytes) (drop (page_at P page) before.content)
@@ -114,7 +114,7 @@ module _ {D : Type 0} (dev : device.Ghosts D) (seal : List ℕ → ℕ) (P : ℕ
   pub record ClearsSlot (page : ℕ) (second : Bool) (result : Result ℕ DevError) : Type 0 where
     -- Of the last page, each crash leaves a prefix of the sealed prefix, no shorter than what the
     -- other slot covers.
-    pub crashes : dev.Tells → (keep : ℕ) → IsAtRest before
+    pub crashes : dev.Tells → (keep : ℕ) → StandsSettled before
         → length before.content ≤ page_at P (page + 1)
         → slot_length seal P before.content page (not second) ≡ keep → 0 < keep
         → page * P + keep ≤ length sealed_part
@@ -140,7 +140,7 @@ module _ {D : Type 0} (dev : device.Ghosts D) (seal : List ℕ → ℕ) (P : ℕ
       (result : Result ℕ DevError) : Type 0 where
     -- of a settled blob, where the cut is within its sealed prefix, each crash leaves a prefix of
     -- that, no shorter than the cut
-    pub crashes : dev.Tells → IsAtRest before → best_slot seal P before.content page ≡ second
+    pub crashes : dev.Tells → StandsSettled before → best_slot seal P before.content page ≡ second
         → length bytes ≤ page_length seal P before.content page
         → bytes ≡ take (length bytes) (drop (page_at P page) before.content)
         → page * P + length bytes ≤ length sealed_part

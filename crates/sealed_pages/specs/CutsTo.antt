@@ -8,7 +8,7 @@ use Rattle.blob_device.specs.declared.runtime.RError.TheVariants.{InvalidChecksu
 use Rattle.sealed_pages.specs.Buffer.{Buffer, key_of, bytes_of, HasFlushed, Holds}
 use Rattle.sealed_pages.specs.Calls.{FailsBelow}
 use Rattle.sealed_pages.specs.ChanceSeal.{Sealing}
-use Rattle.sealed_pages.specs.Cutting.{IsAtRest, FewReads}
+use Rattle.sealed_pages.specs.Cutting.{StandsSettled, FewReads}
 use Rattle.sealed_pages.specs.Entries.{IsOpenAt, NoReads}
 use Rattle.sealed_pages.specs.Flushing.{Alone, Data}
 use Rattle.sealed_pages.specs.Reading.{Unchanged}
@@ -55,11 +55,11 @@ module _ {D : Type 0} (dev : device.Ghosts D) (seal : List ℕ → ℕ) (u : Buf
       (result : Result B RError) : Type 0 where
     -- of a settled blob, where the cut is within its sealed prefix, each crash leaves a prefix of
     -- that, no shorter than the cut,
-    pub crashes : dev.Tells → IsAtRest before → page_at u.page_size page ≤ length before.content
+    pub crashes : dev.Tells → StandsSettled before → page_at u.page_size page ≤ length before.content
         → page * u.page_size ≤ length sealed_part
         → Sealing seal u.page_size sealed_part (page * u.page_size) (key_of u) early late
     -- and then the buffer holds it up to there
-    pub done : dev.Tells → IsAtRest before → page_at u.page_size page ≤ length before.content
+    pub done : dev.Tells → StandsSettled before → page_at u.page_size page ≤ length before.content
         → page * u.page_size ≤ length sealed_part
         → IfOk result (λ r. Holds seal (see r) (take (page * u.page_size) sealed_part) after)
     -- whatever the slots say: the buffer means the data up to there,
@@ -75,7 +75,7 @@ module _ {D : Type 0} (dev : device.Ghosts D) (seal : List ℕ → ℕ) (u : Buf
     pub memory : dev.Tells → IfOk result (λ r. ((see r).from
         ≤ page_length seal u.page_size after.content (see r).first) × ((see r).cache ≡ []))
     -- the blob has settled
-    pub rests : dev.Tells → OnOk result (IsAtRest after)
+    pub rests : dev.Tells → OnOk result (StandsSettled after)
     -- the buffer ends there
     pub same : IfOk result (λ r. see r ≡ ended_with u (see r).end page [] (see r).newest)
     -- no other blob changes
@@ -98,10 +98,10 @@ module _ {D : Type 0} (dev : device.Ghosts D) (seal : List ℕ → ℕ) (u : Buf
   pub record CutsWithin {B : Type 0} (see : B → Buffer) (page keep : ℕ)
       (result : Result B RError) : Type 0 where
     -- of a settled blob each crash leaves a prefix of the sealed prefix, no shorter than the cut,
-    pub crashes : dev.Tells → IsAtRest before → page * u.page_size + keep ≤ length sealed_part
+    pub crashes : dev.Tells → StandsSettled before → page * u.page_size + keep ≤ length sealed_part
         → Sealing seal u.page_size sealed_part (page * u.page_size + keep) (key_of u) early late
     -- and then the buffer holds it up to there
-    pub done : dev.Tells → IsAtRest before → page * u.page_size + keep ≤ length sealed_part
+    pub done : dev.Tells → StandsSettled before → page * u.page_size + keep ≤ length sealed_part
         → IfOk result (λ r. Holds seal (see r) (take (page * u.page_size + keep) sealed_part) after)
     -- whatever the slots say: the buffer means the data up to there,
     pub bytes : dev.Tells → (all : List ℕ)
@@ -117,7 +117,7 @@ module _ {D : Type 0} (dev : device.Ghosts D) (seal : List ℕ → ℕ) (u : Buf
     pub memory : dev.Tells → IfOk result (λ r. ((see r).from
         ≤ page_length seal u.page_size after.content (see r).first) × ((see r).cache ≡ []))
     -- the blob has settled
-    pub rests : dev.Tells → OnOk result (IsAtRest after)
+    pub rests : dev.Tells → OnOk result (StandsSettled after)
     -- the buffer ends there
     pub same : IfOk result (λ r. see r ≡ ended_with u (see r).end page (see r).tip (see r).newest)
     -- with the bytes that are kept as its tip

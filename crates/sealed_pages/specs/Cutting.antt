@@ -9,12 +9,12 @@ use Rattle.sealed_pages.specs.SealedPrefix.{sealed_prefix, adopted_size}
 use Rattle.sealed_pages.specs.Flushing.{no_slot}
 
 -- what the blob reads as has settled
-abbrev pub IsAtRest : Blob → Type 0
-IsAtRest b = b ≡ settled_at b.content
+abbrev pub StandsSettled : Blob → Type 0
+StandsSettled b = b ≡ settled_at b.content
 
 -- The blob has settled with these bytes: they are its sealed prefix, and adopting it finds no more.
 pub record Settles (seal : List ℕ → ℕ) (P : ℕ) (all : List ℕ) (b : Blob) : Type 0 where
-  pub rest : IsAtRest b
+  pub rest : StandsSettled b
   pub prefix : sealed_prefix seal P b.content ≡ all
   pub adopted : adopted_size seal P b.content ≡ length all
 

@@ -9,7 +9,7 @@ use Rattle.blob_device.specs.declared.error.DevError.TheVariants.{Fault}
 use Rattle.sealed_pages.specs.Buffer.{Buffer, key_of, size_of, flushed_of, has_leftover, AddsPages, FlushesInto, Holds, IsBacked}
 use Rattle.sealed_pages.specs.ChanceSeal.{Sealing}
 use Rattle.sealed_pages.specs.Contents.{IsHad}
-use Rattle.sealed_pages.specs.Cutting.{IsAtRest}
+use Rattle.sealed_pages.specs.Cutting.{StandsSettled}
 use Rattle.sealed_pages.specs.Entries.{IsOpenAt, NoReads}
 use Rattle.sealed_pages.specs.Flushing.{Data, Wrote, CoversFrom}
 use Rattle.sealed_pages.specs.Leftover.{Leftover, IsCleared, ClearsFirst, SettlesNothing}
@@ -46,14 +46,14 @@ module _ {D : Type 0} (dev : device.Ghosts D) (seal : List ℕ → ℕ) (u : Buf
     -- the pages below the tip's stand as they did
     pub prefix : dev.Tells → SparesPrefix (page_at u.page_size u.first) (key_of u) early late
     -- only the torn slot is written until all is gone for good,
-    pub clears : dev.Tells → IsAtRest before → Always early late (OnlyAt (key_of u) (disk early)
+    pub clears : dev.Tells → StandsSettled before → Always early late (OnlyAt (key_of u) (disk early)
         (ClearsFirst seal u.page_size u.first u.from u.newest))
     -- and then it is
-    pub cleared : dev.Tells → IsAtRest before
+    pub cleared : dev.Tells → StandsSettled before
         → Leftover seal u.page_size before.content u.first u.from u.newest u.behind u.torn
         → OnOk result (IsCleared seal u.page_size u.first u.from u.newest after.settled)
     -- where something was, the blob has settled
-    pub settles : dev.Tells → (u.behind || u.torn) ≡ true → OnOk result (IsAtRest after)
+    pub settles : dev.Tells → (u.behind || u.torn) ≡ true → OnOk result (StandsSettled after)
     -- the blob reads as a content that it has had, if it did before
     pub had : dev.Tells → IsHad before → OnOk result (IsHad after)
     -- the buffer is as before, but for what was removed
@@ -123,7 +123,7 @@ module _ {D : Type 0} (dev : device.Ghosts D) (seal : List ℕ → ℕ) (u : Buf
     -- the pages below the tip's stand as they did
     pub prefix : dev.Tells → SparesPrefix (page_at u.page_size u.first) (key_of u) early late
     -- what a crash left in the blob is gone for good before the first byte is written
-    pub clears : dev.Tells → IsAtRest before
+    pub clears : dev.Tells → StandsSettled before
         → Leftover seal u.page_size before.content u.first u.from u.newest u.behind u.torn
         → Always early late (OnlyAt (key_of u) (disk early)
         (ClearsFirst seal u.page_size u.first u.from u.newest))

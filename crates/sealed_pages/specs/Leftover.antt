@@ -5,7 +5,7 @@ use Rattle.blob_device.specs.Timeline.{Timeline, disk, Always, OnlyAt}
 use Rattle.sealed_pages.specs.View.{view, page_at, slot_at, Within}
 use Rattle.sealed_pages.specs.Slots.{slot_length, best_slot}
 use Rattle.sealed_pages.specs.Buffer.{Buffer, pages_of, flushed_of, has_leftover}
-use Rattle.sealed_pages.specs.Cutting.{IsAtRest}
+use Rattle.sealed_pages.specs.Cutting.{StandsSettled}
 
 -- the slot is six zeros, bytes past the content's end included
 abbrev pub IsBlank : ℕ → List ℕ → ℕ → Bool → Type 0
@@ -26,7 +26,7 @@ module _ (seal : List ℕ → ℕ) (P : ℕ) where
 -- What a crash left in a buffer's blob is known: where something has to be removed, it is that, the blob has settled, and
 -- nothing was flushed since.
 abbrev pub IsKnown : (List ℕ → ℕ) → Buffer → Blob → Type 0
-IsKnown seal u b = has_leftover u ≡ true → (IsAtRest b × Leftover seal u.page_size b.content u.first u.from u.newest u.behind u.torn)
+IsKnown seal u b = has_leftover u ≡ true → (StandsSettled b × Leftover seal u.page_size b.content u.first u.from u.newest u.behind u.torn)
     × (u.settled ≡ flushed_of u)
 
 -- of the blob's bytes only those of the slot at this place were written since it settled

@@ -8,7 +8,7 @@ use Rattle.blob_device.specs.declared.device.Device as device
 use Rattle.blob_device.specs.declared.error.DevError.{DevError}
 use Rattle.blob_device.specs.declared.error.DevError.TheVariants.{Fault}
 use Rattle.sealed_pages.specs.Buffer.{Adopted}
-use Rattle.sealed_pages.specs.Cutting.{IsAtRest}
+use Rattle.sealed_pages.specs.Cutting.{StandsSettled}
 use Rattle.sealed_pages.specs.Entries.{IsOpenAt, NoReads}
 use Rattle.sealed_pages.specs.Flushing.{Kept, IsClean, Removed, PageFlushed, Data, Wrote, no_slot}
 use Rattle.sealed_pages.specs.Leftover.{Leftover, OnlySlot, IsCleared, ClearsFirst}
@@ -48,7 +48,7 @@ module _ {D : Type 0} (dev : device.Ghosts D) (seal : List ℕ → ℕ) (P : ℕ
     -- these pages stand as they did
     pub prefix : dev.Tells → SparesPrefix (page_at P pages) blob early late
     -- of a settled blob no byte is written
-    pub loose : dev.Tells → (at : ℕ) → IsAtRest before
+    pub loose : dev.Tells → (at : ℕ) → StandsSettled before
         → Always early late (OnlyAt blob (disk early) (OnlySlot at))
     -- then it has these pages, if `behind`, else what it had
     pub content : dev.Tells → OnOk result (after.content
@@ -103,13 +103,13 @@ module _ {D : Type 0} (dev : device.Ghosts D) (seal : List ℕ → ℕ) (P : ℕ
     -- the pages below the tip's stand as they did
     pub prefix : dev.Tells → SparesPrefix (page_at P first) blob early late
     -- only the torn slot is written until all is gone for good,
-    pub clears : dev.Tells → IsAtRest before
+    pub clears : dev.Tells → StandsSettled before
         → Always early late (OnlyAt blob (disk early) (ClearsFirst seal P first from newest))
     -- and then it is
     pub cleared : dev.Tells → Leftover seal P before.content first from newest behind torn
         → OnOk result (IsCleared seal P first from newest after.settled)
     -- it has settled
-    pub settles : dev.Tells → OnOk result (IsAtRest after)
+    pub settles : dev.Tells → OnOk result (StandsSettled after)
     -- the opened list has its length
     pub length : IfOk result (λ n. IsOpenAt (dev.opened new) blob n)
     -- no read began, and no other entry changed

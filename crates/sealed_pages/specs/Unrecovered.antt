@@ -8,7 +8,7 @@ use Rattle.sealed_pages.specs.View.{View, view, page_at}
 use Rattle.sealed_pages.specs.Slots.{page_length}
 use Rattle.sealed_pages.specs.SealedPrefix.{sealed_prefix}
 use Rattle.sealed_pages.specs.Buffer.{Buffer, key_of, size_of, IsBacked, IsSealed}
-use Rattle.sealed_pages.specs.Cutting.{IsAtRest}
+use Rattle.sealed_pages.specs.Cutting.{StandsSettled}
 use Rattle.sealed_pages.specs.Contents.{IsHad}
 
 -- a buffer's blob
@@ -57,7 +57,7 @@ pub record IsUnrecovered (seal : List ℕ → ℕ) (u : Buffer) (b : Blob) : Typ
   -- what is in memory is as in the blob
   pub backed : IsBacked seal u b.content
   -- where all bytes have settled, so has the blob
-  pub rest : u.settled ≡ size_of u → IsAtRest b
+  pub rest : u.settled ≡ size_of u → StandsSettled b
   -- the blob reads as a content that it has had
   pub had : IsHad b
 

@@ -9,7 +9,7 @@ use Rattle.blob_device.specs.declared.runtime.RError.TheVariants.{InvalidChecksu
 use Rattle.sealed_pages.specs.Buffer.{Buffer, key_of, size_of, bytes_of, extent, FlushesNothing, AddsPages, IsBacked, IsSealed}
 use Rattle.sealed_pages.specs.Calls.{FailsBelow}
 use Rattle.sealed_pages.specs.ChanceSeal.{Leaves, Sealing}
-use Rattle.sealed_pages.specs.Cutting.{IsAtRest, Settles, FewReads}
+use Rattle.sealed_pages.specs.Cutting.{StandsSettled, Settles, FewReads}
 use Rattle.sealed_pages.specs.Entries.{IsOpenAt, NoReads}
 use Rattle.sealed_pages.specs.Flushing.{Alone, Data}
 use Rattle.sealed_pages.specs.Leftover.{Leftover, ClearsFirst, IsKnown}
@@ -56,7 +56,7 @@ module _ {D : Type 0} (dev : device.Ghosts D) (seal : List ℕ → ℕ) (u : Buf
     pub sealed : dev.Tells → IsSealed seal u before
         → IfOk result (λ r. IsSealed seal (see r.0) after)
     -- what a crash left in the blob is gone for good before the first byte of a page is written
-    pub clears : dev.Tells → IsAtRest before
+    pub clears : dev.Tells → StandsSettled before
         → Leftover seal u.page_size before.content u.first u.from u.newest u.behind u.torn
         → Always early late (OnlyAt (key_of u) (disk early)
         (ClearsFirst seal u.page_size u.first u.from u.newest))
@@ -123,7 +123,7 @@ module _ {D : Type 0} (dev : device.Ghosts D) (seal : List ℕ → ℕ) (u : Buf
     -- a sealed buffer stays sealed
     pub sealed : dev.Tells → IsSealed seal u before → IfOk result (λ r. IsSealed seal (see r) after)
     -- what a crash left in the blob is gone for good before the first byte of a page is written
-    pub clears : dev.Tells → IsAtRest before
+    pub clears : dev.Tells → StandsSettled before
         → Leftover seal u.page_size before.content u.first u.from u.newest u.behind u.torn
         → Always early late (OnlyAt (key_of u) (disk early)
         (ClearsFirst seal u.page_size u.first u.from u.newest))
@@ -158,7 +158,7 @@ module _ {D : Type 0} (dev : device.Ghosts D) (seal : List ℕ → ℕ) (u : Buf
     pub leaves : dev.Tells → IsSealed seal u before
         → OnOk result (Leaves seal u.page_size meant (size_of u) after)
     -- the blob has settled; where no call was made, if it had before
-    pub rests : dev.Tells → (u.settled ≡ size_of u → IsAtRest before) → OnOk result (IsAtRest after)
+    pub rests : dev.Tells → (u.settled ≡ size_of u → StandsSettled before) → OnOk result (StandsSettled after)
     -- the bytes are its sealed prefix, and adopting it gives them again
     pub again : dev.Tells → IsSealed seal u before
         → OnOk result (Settles seal u.page_size meant after)
@@ -231,7 +231,7 @@ module _ {D : Type 0} (dev : device.Ghosts D) (seal : List ℕ → ℕ) (u : Buf
     -- where it cut, all counts as settled,
     pub settled : len < size_of u → IfOk result (λ r. (see r).settled ≡ len)
     -- and the blob has settled
-    pub rests : dev.Tells → len < size_of u → OnOk result (IsAtRest after)
+    pub rests : dev.Tells → len < size_of u → OnOk result (StandsSettled after)
     -- whatever the slots say: adopting the blob finds no more
     pub shorter : dev.Tells → len < size_of u
         → OnOk result (adopted_size seal u.page_size after.content ≤ len)
@@ -266,8 +266,8 @@ module _ {D : Type 0} (dev : device.Ghosts D) (seal : List ℕ → ℕ) (u : Buf
         → result ≡ Err (InvalidChecksum p)
         → Data u.page_size meant (size_of u) (view after.content)
     -- and nothing pending;
-    pub uncut_rests : dev.Tells → (u.settled ≡ size_of u → IsAtRest before) → (p : ℕ)
-        → result ≡ Err (InvalidChecksum p) → IsAtRest after
+    pub uncut_rests : dev.Tells → (u.settled ≡ size_of u → StandsSettled before) → (p : ℕ)
+        → result ≡ Err (InvalidChecksum p) → StandsSettled after
     -- where nothing was pending, the disk is as it was
     pub untouched : dev.Tells → u.settled ≡ size_of u → (p : ℕ) → result ≡ Err (InvalidChecksum p)
         → Unchanged early late

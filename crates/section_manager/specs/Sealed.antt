@@ -2,7 +2,7 @@
 use Rattle.std.specs.Prelude.{◌≡◌, ℕ, ◌==◌, not, min, Bool, List, length}
 use Rattle.blob_device.specs.Disk.{Blob}
 use Rattle.sealed_pages.specs.Buffer.{Buffer, size_of, bytes_of, IsSealed}
-use Rattle.sealed_pages.specs.Cutting.{IsAtRest}
+use Rattle.sealed_pages.specs.Cutting.{StandsSettled}
 use Rattle.sealed_pages.specs.SealedPrefix.{sealed_prefix, adopted_size, data_from, Prefix}
 use Rattle.sealed_pages.specs.Unrecovered.{IsUnrecovered, IsAdopted}
 use Rattle.sealed_pages.specs.View.{view}
@@ -23,7 +23,7 @@ module _ (seal : List ℕ → ℕ) where
   -- The buffer stands over this blob, which has settled where all bytes have.
   pub record Stands (u : Buffer) (b : Blob) : Type 0 where
     pub adopted : IsAdopted seal u b
-    pub rest : u.settled ≡ size_of u → IsAtRest b
+    pub rest : u.settled ≡ size_of u → StandsSettled b
 
   -- A crash may leave these bytes: their sealed prefix is a prefix of the buffer's bytes, with as many as are to be kept. Where
   -- the sealed prefix of an adopted blob is shorter than its size, no more is kept than that prefix as it read.

@@ -8,7 +8,7 @@ use Rattle.blob_device.specs.Disk.{Blob, past}
 use Rattle.sealed_pages.specs.Buffer.{Buffer, Fit, size_of, flushed_of, bytes_of, IsBacked, IsSealed}
 use Rattle.sealed_pages.specs.ChanceSeal.{SamePlace, SomeByRecursion, NoChanceSeal}
 use Rattle.sealed_pages.specs.ChanceSeal as chance
-use Rattle.sealed_pages.specs.Cutting.{IsAtRest}
+use Rattle.sealed_pages.specs.Cutting.{StandsSettled}
 use Rattle.sealed_pages.specs.Flushing.{Data}
 use Rattle.sealed_pages.specs.Reads.{IsWanted}
 use Rattle.sealed_pages.specs.SealedPrefix.{sealed_prefix, adopted_size, data_from, place, Prefix}
@@ -93,7 +93,7 @@ module _ (seal : List ℕ → ℕ) where
       unrecovered = λ un. (let n = length (sealed_prefix seal u.page_size b.content) in fewer (sealed_prefix seal u.page_size b.content) (min few n) (min more n) c (omega (arith, le)) (keeps.unrecovered un));
     }
 
-    pub rested : (b : Blob) → Stands seal u b → is_unsettled u ≡ false → IsAtRest b
+    pub rested : (b : Blob) → Stands seal u b → is_unsettled u ≡ false → StandsSettled b
     rested b stands idle = stands.rest (all_settled u idle)
 
     module _ (fit : Fit u.page_size u.first u.from u.tip) (order : u.settled ≤ flushed_of u) where

@@ -4,7 +4,7 @@ use Rattle.std.specs.Int.{w64, to_be_bytes}
 use Rattle.blob_device.specs.Disk.{Key, Blob, Disk}
 use Rattle.blob_device.specs.Opened.{OpenedList}
 use Rattle.sealed_pages.specs.Entries.{IsOpenAt}
-use Rattle.sealed_pages.specs.Cutting.{IsAtRest}
+use Rattle.sealed_pages.specs.Cutting.{StandsSettled}
 use Rattle.section_manager.specs.declared.buffer.SectionBuffer as buffer
 use Rattle.section_manager.specs.Setting.{Setting}
 use Rattle.section_manager.specs.declared.unopened.Unopened.{Unopened}
@@ -94,7 +94,7 @@ module _ {B : Type 0} (g : buffer.Ghosts B) where
     pub settled : g.settled v ≡ g.byte_count u
     pub done : g.unsettled v ≡ false
     pub bytes : told → g.bytes v new.content ≡ g.bytes u old.content
-    pub rests : told → IsAtRest new
+    pub rests : told → StandsSettled new
     pub whole : told → g.IsWhole u old → g.IsWhole v new
     pub again : told → g.IsWhole u old → g.holds (g.setting v) new.content ≡ g.bytes v new.content
     pub same : g.unsettled u ≡ false → v ≡ u
@@ -105,7 +105,7 @@ module _ {B : Type 0} (g : buffer.Ghosts B) where
     pub bytes : told → g.bytes v new.content ≡ take n (g.bytes u old.content)
     pub settled : n < g.byte_count u → g.settled v ≡ n
     pub done : n < g.byte_count u → g.unsettled v ≡ false
-    pub rests : told → n < g.byte_count u → IsAtRest new
+    pub rests : told → n < g.byte_count u → StandsSettled new
     pub whole : told → g.IsWhole u old → g.IsWhole v new
     pub mended : told → n < g.byte_count u → g.IsWhole v new
     pub again : told → n < g.byte_count u → g.holds (g.setting v) new.content ≡ g.bytes v new.content

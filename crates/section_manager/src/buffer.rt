@@ -6,7 +6,7 @@ ghost use Rattle.blob_device.specs.Disk.{Key, Blob, settled_at};
 ghost use Rattle.blob_device.specs.Timeline.{disk};
 ghost use Rattle.blob_device.specs.Counts.{Rose};
 ghost use Rattle.sealed_pages.specs.Entries.{IsOpenAt};
-ghost use Rattle.sealed_pages.specs.Cutting.{IsAtRest};
+ghost use Rattle.sealed_pages.specs.Cutting.{StandsSettled};
 ghost use Rattle.sealed_pages.specs.Reading.{Unchanged};
 ghost use Rattle.section_manager.specs.Setting.{Setting};
 ghost use Rattle.section_manager.specs.Leaving.{Leaves, AllMoments};
@@ -173,7 +173,7 @@ pub trait SectionBuffer: Sized + Drop {
     ghost all_settled: { (u : Self) → unsettled u ≡ false → settled u ≡ byte_count u };
 
     /// The blob has then settled.
-    ghost rested: { (u : Self) (b : Blob) → Stands u b → unsettled u ≡ false → IsAtRest b };
+    ghost rested: { (u : Self) (b : Blob) → Stands u b → unsettled u ≡ false → StandsSettled b };
 
     /// A new buffer over it then has the bytes again, where the promise on crashes stands of all.
     ghost found_again: { (u : Self) (b : Blob) → Stands u b → IsWhole u b → unsettled u ≡ false → holds (setting u) b.content ≡ bytes u b.content };
@@ -198,9 +198,9 @@ pub trait BufferFactory: Drop {
     ) -> Result<Self::Buffer, RError>
         requires open { IsOpenAt (D.opened dev.old) (partition.now, name.now) size }
         ensures unchanged { D.Tells → Unchanged (D.time dev.old) (D.time dev.new) }
-        ensures stands { D.Tells → IsAtRest (disk (D.time dev.old) (partition.now, name.now))
+        ensures stands { D.Tells → StandsSettled (disk (D.time dev.old) (partition.now, name.now))
             → IfOk result (λ r. Self.Buffer.Stands r (disk (D.time dev.old) (partition.now, name.now))) }
-        ensures bytes { D.Tells → IsAtRest (disk (D.time dev.old) (partition.now, name.now))
+        ensures bytes { D.Tells → StandsSettled (disk (D.time dev.old) (partition.now, name.now))
             → IfOk result (λ r. Self.Buffer.bytes r (disk (D.time dev.old) (partition.now, name.now)).content ≡ Self.Buffer.holds (gives self.now) (disk (D.time dev.old) (partition.now, name.now)).content) }
         ensures key { IfOk result (λ r. Self.Buffer.key r ≡ (partition.now, name.now)) }
         ensures setting { IfOk result (λ r. Self.Buffer.setting r ≡ gives self.now) }

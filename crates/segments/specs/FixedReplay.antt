@@ -7,7 +7,7 @@ use Rattle.value_codec.specs.declared.codec.Error as codec
 use Rattle.sealed_pages.specs.declared.page_blob.PageBlob.{PageBlob}
 use Rattle.sealed_pages.specs.Shown.{shown}
 use Rattle.sealed_pages.specs.Buffer.{size_of, bytes_of, IsSealed}
-use Rattle.sealed_pages.specs.Cutting.{IsAtRest}
+use Rattle.sealed_pages.specs.Cutting.{StandsSettled}
 use Rattle.sealed_pages.specs.SealedPrefix.{sealed_prefix}
 use Rattle.sealed_pages.specs.ChanceSeal.{Leaves}
 use Rattle.sealed_pages.specs.Readers.{Reader, IsReplayOf}
@@ -73,7 +73,7 @@ pub record SameItems (seal : List ℕ → ℕ) (P size : ℕ) (b c : Blob) : Typ
   pub items : take (length (sealed_prefix seal P b.content) / size * size)
       (sealed_prefix seal P c.content) ≡ take (length (sealed_prefix seal P b.content) / size *
       size) (sealed_prefix seal P b.content)
-  pub rests : (c ≡ b) ⊎ IsAtRest c
+  pub rests : (c ≡ b) ⊎ StandsSettled c
 
 -- A section that is not unopened was not before, and is held if it was: one that an error lost is
 -- unopened.

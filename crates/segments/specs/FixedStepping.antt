@@ -10,7 +10,7 @@ use Rattle.sealed_pages.specs.Shown.{shown}
 use Rattle.sealed_pages.specs.Buffer.{size_of, bytes_of, IsBacked, IsSealed}
 use Rattle.blob_device.specs.declared.device.Device as device
 use Rattle.sealed_pages.specs.ChanceSeal.{Sealing}
-use Rattle.sealed_pages.specs.Cutting.{IsAtRest}
+use Rattle.sealed_pages.specs.Cutting.{StandsSettled}
 use Rattle.sealed_pages.specs.SealedPrefix.{sealed_prefix}
 use Rattle.sealed_pages.specs.Readers.{Reader, IsReplayOf, unread_of}
 use Rattle.sealed_pages.specs.Reads.{pages_for}
@@ -149,7 +149,7 @@ module _ {S : Type 0} {gs : _} (seal : List ℕ → ℕ) (told : Type 0) (u : Pa
     pub prefix : told → sealed_prefix seal u.page_size c.content
         ≡ take n (sealed_prefix seal u.page_size b.content)
     pub there : told → c.there ≡ b.there
-    pub rests : told → (c ≡ b) ⊎ IsAtRest c
+    pub rests : told → (c ≡ b) ⊎ StandsSettled c
 
 -- The reader is over all bytes of the buffer u, whose blob has this key and ends there, and stands
 -- at their start.

@@ -170,7 +170,7 @@ module _ {F S : Type 0} {gs : _} (f : Filing) (from : Disk) (markers : Markers) 
     | inr far ↦ subst (AllByRecursion (λ e. arch.refusal e.value ≡ None)) (sym (behind s far)) tt
   ]
 
-  -- at rest each crash leaves what stands for its state
+  -- once settled, each crash leaves what stands for its state
   pub rests : arch.items ≡ f.items → ((s : ℕ) → map (filed (filing_of arch)) (list_of arch.pair z s) ≡ map (filed f) (list_of arch.pair z s)) → LeavesNoForeign f.layout z
       → pair.Leaves arch.pair.layout (list_of arch.pair z) (synced_length arch.pair) (λ _. ⊥) z → Leaves f (state_of arch z) None z
   rests items same names leaves image crash no_chance =

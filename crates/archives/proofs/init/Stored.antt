@@ -7,7 +7,7 @@ use Rattle.blob_device.specs.Opened.{OpenedList}
 use Rattle.sealed_pages.specs.declared.page_blob.PageBlob.{PageBlob}
 use Rattle.sealed_pages.specs.declared.write_blob.WriteBlob.{WriteBlob}
 use Rattle.sealed_pages.specs.Buffer.{bytes_of, size_of}
-use Rattle.sealed_pages.specs.Cutting.{IsAtRest}
+use Rattle.sealed_pages.specs.Cutting.{StandsSettled}
 use Rattle.sealed_pages.specs.SealedPrefix.{sealed_prefix}
 use Rattle.sealed_pages.specs.Shown.{shown}
 use Rattle.section_manager.specs.declared.buffer.SectionBuffer as buffer
@@ -57,7 +57,7 @@ module _ {F S : Type 0} {gs : _} {g : buffer.Ghosts (PageBlob S gs)} {gives : F 
     | inl none ↦ absurd (cc (subst IsSome none held))
     | inr some ↦
         let b : Blob = d (key_of run.walk.journal.sections s) in
-        let rest : IsAtRest b = (pages.stands some.0 b ((was.index.over.disk t).stands s some.0 some.1)).rest (settled_at s some.0 some.1) in
+        let rest : StandsSettled b = (pages.stands some.0 b ((was.index.over.disk t).stands s some.0 some.1)).rest (settled_at s some.0 some.1) in
         subst (λ (k : Key). reads (d k) ≡ Some (d k).content) (key_here s) (reads_there b (rest_there b rest))
   ]
 
@@ -126,7 +126,7 @@ module _ {F S : Type 0} {gs : _} {g : buffer.Ghosts (PageBlob S gs)} {gives : F 
     | inr some ↦
         let stands = (was.values.over.disk t).stands s some.0 some.1 in
         let idle = value_idle s some.0 some.1 in
-        let rest : IsAtRest (d (key_of run.values s)) = rested some.0 (d (key_of run.values s)) stands idle in
+        let rest : StandsSettled (d (key_of run.values s)) = rested some.0 (d (key_of run.values s)) stands idle in
         ap (λ (x : Option (List ℕ)). unwrap_or x []) (reads_there (d (key_of run.values s)) (rest_there (d (key_of run.values s)) rest))
         ∙ found_again some.0 (d (key_of run.values s)) stands (idle_whole some.0 (d (key_of run.values s)) stands idle) idle
         ∙ sym (ap (λ (x : Option WriteBlob). glob.bytes_held x (d (key_of run.values s)).content) some.1)

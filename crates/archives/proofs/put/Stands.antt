@@ -39,14 +39,14 @@ use Rattle.archives.proofs.StandLemmas.{AreFiled, keeps_stand}
 use Rattle.blob_device.proofs.general.Lists.{all_by, all_push}
 use Rattle.archives.specs.lemmas.put.Stands.{put_appends}
 
--- ---- at rest
+-- ---- settled
 
 -- what a crash leaves while no call is under way
-pub at_rest : {F S : Type 0} {gs : _} {g : buffer.Ghosts (PageBlob S gs)} {gives : F → Setting} {takes : WriteFactory → Setting} {told : Type 0} {opened : _} (a : Archive F (PageBlob S gs)) (d : Disk)
+pub stands_settled : {F S : Type 0} {gs : _} {g : buffer.Ghosts (PageBlob S gs)} {gives : F → Setting} {takes : WriteFactory → Setting} {told : Type 0} {opened : _} (a : Archive F (PageBlob S gs)) (d : Disk)
     → 1 ≤ a.pair.layout.record_size → a.pair.index.sections.partition ≡ a.pair.layout.index → a.pair.values.partition ≡ a.pair.layout.values → a.pair.store.partition ≡ a.pair.layout.metadata → IsTrue a.pair.layout.marked
     → ((s : ℕ) (v : PageBlob S gs) → a.pair.index.sections.held s ≡ Some v → v.page_size ≡ a.pair.layout.page_size)
     → IsArchive a (glob_buffers g gives takes) told opened d → told → IsSoundArchive a d → Leaves (filing_of a) (state_of a d) None d
-at_rest {opened = opened} a d pos index values store is_marked paged archive t sound =
+stands_settled {opened = opened} a d pos index values store is_marked paged archive t sound =
     stands_at a d archive t sound (λ _. ⊥) d (λ q other. refl) (leaves_now a.pair opened d pos index values store is_marked paged archive.pair t sound.pair)
 
 -- A command under way that adds to a list leaves room for what stands for the state without it.

@@ -12,7 +12,7 @@ use Rattle.blob_device.specs.lemmas.Moments.{always_now, always_weaker}
 use Rattle.blob_device.specs.lemmas.Puts.{same_or_other}
 use Rattle.sealed_pages.specs.declared.page_blob.PageBlob.{PageBlob}
 use Rattle.sealed_pages.specs.ChanceSeal as pages
-use Rattle.sealed_pages.specs.Cutting.{IsAtRest}
+use Rattle.sealed_pages.specs.Cutting.{StandsSettled}
 use Rattle.sealed_pages.specs.SealedPrefix.{sealed_prefix}
 use Rattle.sealed_pages.specs.Shown.{shown}
 use Rattle.value_codec.specs.declared.codec.Error as codec
@@ -74,7 +74,7 @@ reads_same b c same is = go b.there c.there refl refl
     go false y here now = absurd (cc (subst (λ (t : Bool). IsSome (cond t (Some c.content) None)) (same ∙ here) is))
 
 -- a blob that has settled is left as it is, and has had no other content
-rest_left : (b : Blob) (o : Option (List ℕ)) → IsAtRest b → MayLeave b o → o ≡ reads b
+rest_left : (b : Blob) (o : Option (List ℕ)) → StandsSettled b → MayLeave b o → o ≡ reads b
 rest_left b o rest may = go o (subst (λ (x : Blob). MayLeave x o) rest may) ∙ sym here
   where
     here : reads b ≡ Some b.content

@@ -8,7 +8,7 @@ use Rattle.blob_device.specs.Timeline.{Timeline, disk, Each}
 use Rattle.blob_device.specs.lemmas.Moments.{always_now}
 use Rattle.sealed_pages.specs.declared.page_blob.PageBlob.{PageBlob}
 use Rattle.sealed_pages.specs.ChanceSeal.{NoChanceSeal, Leaves}
-use Rattle.sealed_pages.specs.Cutting.{IsAtRest}
+use Rattle.sealed_pages.specs.Cutting.{StandsSettled}
 use Rattle.sealed_pages.specs.SealedPrefix.{sealed_prefix, Prefix}
 use Rattle.section_manager.specs.declared.buffer.SectionBuffer as buffer
 use Rattle.section_manager.specs.declared.unsealed.WriteFactory.{WriteFactory}
@@ -40,7 +40,7 @@ use Rattle.blob_device.proofs.general.Options.{none_or_value, some_of, some_ther
 use Rattle.paired.specs.lemmas.next.Running.{moved}
 
 -- A blob that has settled, and was left as a replay may leave it, has the records that it had.
-pub rest_records : (seal : List ℕ → ℕ) (P size floor : ℕ) (from b : Blob) → 1 ≤ size → IsAtRest b → MayLeave b (reads b)
+pub rest_records : (seal : List ℕ → ℕ) (P size floor : ℕ) (from b : Blob) → 1 ≤ size → StandsSettled b → MayLeave b (reads b)
     → (b ≡ from) ⊎ ((floor ≤ length (sealed_prefix seal P from.content) / size * size) × Leaves seal P (sealed_prefix seal P from.content) (length (sealed_prefix seal P from.content) / size * size) b)
     → records size (sealed_prefix seal P b.content) ≡ records size (sealed_prefix seal P from.content)
 rest_records seal P size floor from b pos rest may (inl same) = ap (λ (x : Blob). records size (sealed_prefix seal P x.content)) same
@@ -83,7 +83,7 @@ module _ {F S : Type 0} {gs : _} (g : buffer.Ghosts (PageBlob S gs)) (gives : F 
       kept_here s z u now then true owed =
           let q : Key = key_of run.walk.journal.sections s in
           let settled = walk.walk.owes_settled.settled s z now (went.same.unrecovered s ∙ owed) in
-          let rest : IsAtRest (disk c q) = subst (λ (k : Key). IsAtRest (disk c k)) (now_key s) ((pages.stands z (disk c (key_of w.journal.sections s)) ((walk.over.disk t).stands s z now)).rest settled) in
+          let rest : StandsSettled (disk c q) = subst (λ (k : Key). StandsSettled (disk c k)) (now_key s) ((pages.stands z (disk c (key_of w.journal.sections s)) ((walk.over.disk t).stands s z now)).rest settled) in
           ap (λ (P : ℕ). records run.layout.record_size (sealed_prefix run.layout.seal P (disk c q).content)) (went.floors s u z then now).page_size
           ∙ rest_records run.layout.seal u.page_size run.layout.record_size (run.walk.journal.floor_of s) (disk a q) (disk c q) here.some rest (readable q) ((at_end q).cut s u then owed refl)
 

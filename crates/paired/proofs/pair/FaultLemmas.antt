@@ -5,7 +5,7 @@ use Rattle.blob_device.specs.Disk.{Key, Disk}
 use Rattle.blob_device.specs.Opened.{OpenedList}
 use Rattle.blob_device.specs.Timeline.{Timeline, disk, Always}
 use Rattle.blob_device.specs.declared.runtime.RError.TheVariants.{Fault}
-use Rattle.sealed_pages.specs.Cutting.{IsAtRest}
+use Rattle.sealed_pages.specs.Cutting.{StandsSettled}
 use Rattle.sealed_pages.specs.declared.page_blob.PageBlob.{PageBlob}
 use Rattle.sealed_pages.specs.declared.write_blob.WriteBlob.{WriteBlob}
 use Rattle.section_manager.specs.declared.buffer.SectionBuffer as buffer
@@ -26,7 +26,7 @@ use Rattle.meta_store.specs.declared.error.Error.TheVariants as store
 use Rattle.paired.specs.Crashes.{IsBlobOf, IsCopy}
 use Rattle.paired.specs.Pair.{Pair, AreApart}
 use Rattle.paired.specs.Kept.{IsMarked, marker_of}
-use Rattle.paired.specs.PairFaults.{AreAtRest, FaultsInOrder, StopsAtMarkers, AreDropped}
+use Rattle.paired.specs.PairFaults.{StandSettled, FaultsInOrder, StopsAtMarkers, AreDropped}
 use Rattle.paired.specs.lemmas.Glob.{buffers}
 use Rattle.paired.specs.lemmas.pair.Synced.{Here}
 use Rattle.paired.proofs.pair.Removed.{stands_stays}
@@ -73,7 +73,7 @@ module _ {T : Type 0} where
 module _ {F S : Type 0} {gs : _} (p : Pair F (PageBlob S gs)) (IsNamed : ℕ → Type 0) where
   -- where the call did not end at the markers, and their copies stayed
   pub before_markers : {T : Type 0} (r : Result T Error) (x y : ℕ) (a b : Timeline) → Always a b (λ d. (q : Key) → IsCopy p.layout q → d q ≡ disk a q) → (StopsAtMarkers r x y → ⊥) → FaultsInOrder p IsNamed r x y a b
-  before_markers r x y a b copies never = record { sections = λ is. copies; at_rest = λ stops. absurd (never stops); leaves = λ stops sound synced is. absurd (never stops) }
+  before_markers r x y a b copies never = record { sections = λ is. copies; stands_settled = λ stops. absurd (never stops); leaves = λ stops sound synced is. absurd (never stops) }
 
   -- an error that is handed on
   pub faults_as : {T U : Type 0} (r : Result T Error) (e : Error) (x y : ℕ) (a b : Timeline) → r ≡ Err e → FaultsInOrder p IsNamed {T = U} (Err e) x y a b → FaultsInOrder p IsNamed r x y a b
@@ -85,7 +85,7 @@ module _ {F S : Type 0} {gs : _} (p : Pair F (PageBlob S gs)) (IsNamed : ℕ →
       ] in
       record {
         sections = λ has. faults.sections (handed (Runtime Fault) has);
-        at_rest = λ stops. faults.at_rest (stopped stops);
+        stands_settled = λ stops. faults.stands_settled (stopped stops);
         leaves = λ stops sound synced after. faults.leaves (stopped stops) sound synced after;
       }
 
@@ -94,38 +94,38 @@ module _ {F S : Type 0} {gs : _} (p : Pair F (PageBlob S gs)) (IsNamed : ℕ →
   never_stops v x y (inr lost) = absurd (cc lost.0)
 
   pub faults_ok : {T : Type 0} (v : T) (x y : ℕ) (a b : Timeline) → FaultsInOrder p IsNamed {T = T} (Ok v) x y a b
-  faults_ok v x y a b = record { sections = λ is. absurd (cc is); at_rest = λ stops. absurd (never_stops v x y stops); leaves = λ stops sound synced after. absurd (never_stops v x y stops) }
+  faults_ok v x y a b = record { sections = λ is. absurd (cc is); stands_settled = λ stops. absurd (never_stops v x y stops); leaves = λ stops sound synced after. absurd (never_stops v x y stops) }
 
   -- sections that have settled, while other blobs change
   pub rests_still : (d e : Disk) → ((s : ℕ) → IsHeld p.index.sections s → s < 2 ^ 64) → ((s : ℕ) → IsHeld p.values s → s < 2 ^ 64) → ((q : Key) → IsBlobOf p.layout IsNamed q → e q ≡ d q)
-      → AreAtRest p IsNamed d → AreAtRest p IsNamed e
+      → StandSettled p IsNamed d → StandSettled p IsNamed e
   rests_still d e index_number values_number same rests = record {
-    index = λ s is held. subst IsAtRest (sym (same (section_key p.layout.index s) (inl (s, index_number s held, is, refl)))) (rests.index s is held);
-    values = λ s is held. subst IsAtRest (sym (same (section_key p.layout.values s) (inr (s, values_number s held, is, refl)))) (rests.values s is held);
+    index = λ s is held. subst StandsSettled (sym (same (section_key p.layout.index s) (inl (s, index_number s held, is, refl)))) (rests.index s is held);
+    values = λ s is held. subst StandsSettled (sym (same (section_key p.layout.values s) (inr (s, values_number s held, is, refl)))) (rests.values s is held);
   }
 
   -- what the calls of the two kinds of sections leave
   pub rests_after : (g : buffer.Ghosts (PageBlob S gs)) (gives : F → Setting) (told : Type 0) (k : Lists F (PageBlob S gs)) (n : Sections WriteFactory WriteBlob) (o0 o1 o2 : OpenedList) (d0 d1 d2 : Disk)
-      → Here gives p → AreApart p.layout → IndexSynced g told IsNamed p.index k o0 o1 d0 d1 → ValuesSynced told IsNamed p.values n o1 o2 d1 d2 → told → AreAtRest p IsNamed d2
+      → Here gives p → AreApart p.layout → IndexSynced g told IsNamed p.index k o0 o1 d0 d1 → ValuesSynced told IsNamed p.values n o1 o2 d1 d2 → told → StandSettled p IsNamed d2
   rests_after g gives told k n o0 o1 o2 d0 d1 d2 here apart index values x = record { index = index_rests; values = values_rest }
     where
       same : (s : ℕ) → d2 (key_of p.index.sections s) ≡ d1 (key_of p.index.sections s)
       same s = values.blobs x (key_of p.index.sections s) (other_partition p.values (λ s. IsNamed s × IsHeld p.values s) p.layout.values (key_of p.index.sections s) here.values (λ is. apart.values (sym here.index ∙ is)))
 
-      index_rests : (s : ℕ) → IsNamed s → IsHeld p.index.sections s → IsAtRest (d2 (section_key p.layout.index s))
+      index_rests : (s : ℕ) → IsNamed s → IsHeld p.index.sections s → StandsSettled (d2 (section_key p.layout.index s))
       index_rests s is held = elim (none_or_value (p.index.sections.held s)) [
         | inl none ↦ absurd (cc (subst IsSome none held))
         | inr some ↦
             let w = value_of (k.sections.held s) (λ v. IsSynced g told some.0 v (d0 (key_of p.index.sections s)) (d1 (key_of p.index.sections s))) (index.named s some.0 is some.1) in
-            subst (λ (l : List ℕ). IsAtRest (d2 (section_key l s))) here.index (subst IsAtRest (sym (same s)) (w.has.rests x))
+            subst (λ (l : List ℕ). StandsSettled (d2 (section_key l s))) here.index (subst StandsSettled (sym (same s)) (w.has.rests x))
       ]
 
-      values_rest : (s : ℕ) → IsNamed s → IsHeld p.values s → IsAtRest (d2 (section_key p.layout.values s))
+      values_rest : (s : ℕ) → IsNamed s → IsHeld p.values s → StandsSettled (d2 (section_key p.layout.values s))
       values_rest s is held = elim (none_or_value (p.values.held s)) [
         | inl none ↦ absurd (cc (subst IsSome none held))
         | inr some ↦
             let w = value_of (n.held s) (λ v. IsSynced buffers told some.0 v (d1 (key_of p.values s)) (d2 (key_of p.values s))) (values.named s some.0 is some.1) in
-            subst (λ (l : List ℕ). IsAtRest (d2 (section_key l s))) here.values (w.has.rests x)
+            subst (λ (l : List ℕ). StandsSettled (d2 (section_key l s))) here.values (w.has.rests x)
       ]
 
 -- markers that were dropped, while no copy of them changes

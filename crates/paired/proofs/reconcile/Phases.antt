@@ -9,7 +9,7 @@ use Rattle.blob_device.specs.Opened.{OpenedList}
 use Rattle.blob_device.specs.Timeline.{Each}
 use Rattle.sealed_pages.specs.Buffer.{bytes_of, size_of}
 use Rattle.sealed_pages.specs.ChanceSeal as pages
-use Rattle.sealed_pages.specs.Cutting.{IsAtRest}
+use Rattle.sealed_pages.specs.Cutting.{StandsSettled}
 use Rattle.sealed_pages.specs.SealedPrefix.{sealed_prefix}
 use Rattle.sealed_pages.specs.Shown.{shown}
 use Rattle.sealed_pages.specs.declared.page_blob.PageBlob.{PageBlob}
@@ -151,7 +151,7 @@ module _ {F S : Type 0} {gs : _} {g : buffer.Ghosts (PageBlob S gs)} {gives : F 
         others = λ q none. values_cut_only q (λ is. none (inr (inl is)));
       }
 
-      rest_of : (s : ℕ) → IsHeld j.sections s → IsAtRest (d (section_key l.index s))
+      rest_of : (s : ℕ) → IsHeld j.sections s → StandsSettled (d (section_key l.index s))
       rest_of s held = elim (none_or_value (j.sections.held s)) [
         | inl none ↦ absurd (cc (subst IsSome none held))
         | inr some ↦ index_rest rests.parts t s some.0 some.1

@@ -8,7 +8,7 @@ use Rattle.blob_device.specs.Disk.{Key, Blob, Disk, past, settled_at}
 use Rattle.blob_device.specs.Opened.{Opened, OpenedList}
 use Rattle.blob_device.specs.lemmas.Puts.{same_or_other}
 use Rattle.sealed_pages.specs.declared.write_blob.WriteBlob.{WriteBlob}
-use Rattle.sealed_pages.specs.Cutting.{IsAtRest}
+use Rattle.sealed_pages.specs.Cutting.{StandsSettled}
 use Rattle.sealed_pages.specs.Entries.{IsOpenAt, ReadsAtMost}
 use Rattle.sealed_pages.specs.unsealed.Writing.{shown, StandsBehind}
 use Rattle.section_manager.specs.declared.buffer.SectionBuffer as buffer
@@ -20,7 +20,7 @@ use Rattle.section_manager.specs.Sections.{Sections, key_of, IsHeld, IsSame, Sam
 use Rattle.section_manager.specs.unsealed.Buffer.{Stands, IsWhole, KeepsBytes, IsOldOrPrefix, MayKeep, content_of, is_unsettled}
 use Rattle.section_manager.specs.unsealed.Laws.{all_weaker, counted, settled_within, rested}
 use Rattle.section_manager.specs.lemmas.Keys.{key_injective, keys_differ}
-use Rattle.section_manager.specs.lemmas.buffers.UnsealedCalls.{whole_at_rest}
+use Rattle.section_manager.specs.lemmas.buffers.UnsealedCalls.{whole_settled}
 use Rattle.section_manager.specs.lemmas.sections.Over.{same_key}
 use Rattle.paired.specs.glob.Lasting.{Outlasts}
 use Rattle.paired.specs.glob.Sections.{bytes_held, size_held, section_bytes, section_size, HadPrefixes, HasSettled, TakesMore, IsGlob}
@@ -33,7 +33,7 @@ buffers = write_blob.ghosts
 
 -- of its bytes none was written since they settled
 pub idle_whole : (u : WriteBlob) (b : Blob) → Stands u b → is_unsettled u ≡ false → IsWhole u b
-idle_whole u b stands is = whole_at_rest u b is (ap (λ (x : Blob). x.loose) (rested u b stands is))
+idle_whole u b stands is = whole_settled u b is (ap (λ (x : Blob). x.loose) (rested u b stands is))
 
 -- Where only bytes were added since the settled ones settled, what a crash may leave begins with those.
 pub kept_prefix : (u : WriteBlob) (b : Blob) (least : ℕ) (c : List ℕ) → Stands u b → IsWhole u b → least ≤ u.settled → KeepsBytes u b least c → IsPrefixOf (take least (content_of u b.content)) c
@@ -80,8 +80,8 @@ module _ {F : Type 0} (m : Sections F WriteBlob) where
   pub no_bytes : (d : Disk) (s : ℕ) → m.held s ≡ None → section_bytes m d s ≡ []
   no_bytes d s none = ap (λ (o : Option WriteBlob). bytes_held o (d (key_of m s)).content) none
 
-  -- the section's blob holds all its bytes where it is at rest and a new buffer over it would have them
-  pub has_settled : (d : Disk) (s : ℕ) (u : WriteBlob) → m.held s ≡ Some u → IsAtRest (d (key_of m s)) → (d (key_of m s)).content ≡ content_of u (d (key_of m s)).content → HasSettled m d s
+  -- the section's blob holds all its bytes where it is settled and a new buffer over it would have them
+  pub has_settled : (d : Disk) (s : ℕ) (u : WriteBlob) → m.held s ≡ Some u → StandsSettled (d (key_of m s)) → (d (key_of m s)).content ≡ content_of u (d (key_of m s)).content → HasSettled m d s
   has_settled d s u held rests again = rests ∙ ap settled_at (again ∙ sym (held_bytes d s u held))
 
   -- a section that is not among these has a key that is none of theirs

@@ -13,7 +13,7 @@ ghost use Rattle.paired.specs.Crashes.{IsBlobOf, IsCopy, IsIndexOf, IsOwn, IsVal
 ghost use Rattle.paired.specs.glob.Sections as glob;
 ghost use Rattle.paired.specs.Kept.{IsMarked, IsSameLayout, marker_of};
 ghost use Rattle.paired.specs.Pair.{IsPair, IsSafeOn, IsSoundOn, IsMoving, list_of, length_of, synced_length};
-ghost use Rattle.paired.specs.PairFaults.{AreAtRest, FaultsInOrder};
+ghost use Rattle.paired.specs.PairFaults.{StandSettled, FaultsInOrder};
 ghost use Rattle.paired.specs.PairRefusing.{HasLostMarkers};
 ghost use Rattle.paired.specs.PairSync.{IsSyncOf, MovesMarkers, SyncKeeps};
 ghost use Rattle.paired.specs.Tracked.{Trails, synced_of};
@@ -189,7 +189,7 @@ impl<I: Record, V: Codec, S: Seal> Oversized<I, V, S> {
         ensures alone { D.Tells → Always (D.time dev.old) (D.time dev.new) (λ d. (q : Key) → (IsBlobOf (shown I.place self).layout (Contains sections.now) q → ⊥) → d q ≡ disk (D.time dev.old) q) }
         ensures untouched { D.Tells → Always (D.time dev.old) (D.time dev.new) (λ d. (q : Key) → (IsBlobOf (shown I.place self).layout (λ s. Contains sections.now s × IsHeld (shown I.place self).index.sections s) q → ⊥) → d q ≡ disk (D.time dev.old) q) }
         ensures order { D.Tells → InOrder (IsIndexOf (shown I.place self).layout (Contains sections.now)) (IsValuesOf (shown I.place self).layout (Contains sections.now)) (D.time dev.old) (D.time dev.new) }
-        ensures rests { D.Tells → OnOk result (AreAtRest (shown I.place self) (Contains sections.now) (disk (D.time dev.new))) }
+        ensures rests { D.Tells → OnOk result (StandSettled (shown I.place self) (Contains sections.now) (disk (D.time dev.new))) }
         ensures guard { IsPruned result (shown I.place self).index.sections.floor ↔ ((s : ℕ) × Contains sections.now s × (s < (shown I.place self).index.sections.floor)) }
         ensures refuses { ((s : ℕ) × Contains sections.now s × (s < (shown I.place self).index.sections.floor)) → dev.new ≡ dev.old }
         ensures idle { ((s : ℕ) → Contains sections.now s → IsUnsettled ⟦<PageBlob<S> as SectionBuffer>⟧ (shown I.place self).index.sections s ⊎ glob.IsUnsettled (shown I.place self).values s → ⊥) → dev.new ≡ dev.old }

@@ -8,7 +8,7 @@ use Rattle.blob_device.specs.Timeline.{Timeline, disk, Passes, Always, OnlyAt}
 use Rattle.blob_device.specs.lemmas.Bytes.{outside_push}
 use Rattle.blob_device.specs.lemmas.Moments.{always_now, only_start}
 use Rattle.sealed_pages.specs.Buffer.{pages_of}
-use Rattle.sealed_pages.specs.Cutting.{IsAtRest}
+use Rattle.sealed_pages.specs.Cutting.{StandsSettled}
 use Rattle.sealed_pages.specs.Flushing.{no_slot}
 use Rattle.sealed_pages.specs.Leftover.{IsBlank, IsTorn, Leftover, IsCleared, OnlySlot, ClearsFirst, SettlesNothing}
 use Rattle.sealed_pages.specs.Slots.{slot_length}
@@ -38,13 +38,13 @@ settles_then key a b c first second =
     (only_weaker b c key (disk b) (λ x. x.settled ≡ (disk b key).settled) (λ x. x.settled ≡ (disk a key).settled) (λ x e. e ∙ same) second)
 
 -- only the slot is loose
-rest_loose : (b : Blob) → IsAtRest b → b.loose ≡ []
+rest_loose : (b : Blob) → StandsSettled b → b.loose ≡ []
 rest_loose b rest = ap (λ (x : Blob). x.loose) rest
 
 none_loose : (at : ℕ) (b : Blob) → b.loose ≡ [] → OnlySlot at b
 none_loose at b none i = inl (subst (λ (rs : List (ℕ × ℕ)). Outside rs i) (sym none) tt)
 
-pub slot_start : (at : ℕ) (key : Key) (t : Timeline) → IsAtRest (disk t key) → Always t t (OnlyAt key (disk t) (OnlySlot at))
+pub slot_start : (at : ℕ) (key : Key) (t : Timeline) → StandsSettled (disk t key) → Always t t (OnlyAt key (disk t) (OnlySlot at))
 slot_start at key t rest = only_start t key (OnlySlot at) (none_loose at (disk t key) (rest_loose (disk t key) rest))
 
 pub slot_resize : {T : Type 0} (at : ℕ) (key : Key) (a b c : Timeline) (n : ℕ) (result : Result T DevError) → Always a b (OnlyAt key (disk a) (OnlySlot at)) → Passes key (Resize n) result b c → Always a c (OnlyAt key (disk a) (OnlySlot at))
@@ -91,7 +91,7 @@ module _ (seal : List ℕ → ℕ) (P first from : ℕ) (newest : Bool) where
   pub slot_clears : (key : Key) (a b : Timeline) → Always a b (OnlyAt key (disk a) (OnlySlot (slot_at P first (not newest)))) → Always a b (OnlyAt key (disk a) (ClearsFirst seal P first from newest))
   slot_clears key a b always = only_weaker a b key (disk a) (OnlySlot (slot_at P first (not newest))) (ClearsFirst seal P first from newest) (λ x only. inl only) always
 
-  pub clears_start : (key : Key) (t : Timeline) → IsAtRest (disk t key) → Always t t (OnlyAt key (disk t) (ClearsFirst seal P first from newest))
+  pub clears_start : (key : Key) (t : Timeline) → StandsSettled (disk t key) → Always t t (OnlyAt key (disk t) (ClearsFirst seal P first from newest))
   clears_start key t rest = slot_clears key t t (slot_start (slot_at P first (not newest)) key t rest)
 
   -- once that is settled, any byte may be written
@@ -157,7 +157,7 @@ pub slot_then : (at : ℕ) (key : Key) (a b c : Timeline) → Always a b (OnlyAt
 slot_then at key a b c first second = only_then a b c key (OnlySlot at) first (second (always_now a b (OnlyAt key (disk a) (OnlySlot at)) first).here)
 
 -- of a blob that has settled, and of which nothing is left, nothing has to be removed
-pub rest_cleared : (seal : List ℕ → ℕ) (P first from : ℕ) (newest : Bool) (b : Blob) (behind torn : Bool) → Leftover seal P b.content first from newest behind torn → IsAtRest b → behind ≡ false → torn ≡ false
+pub rest_cleared : (seal : List ℕ → ℕ) (P first from : ℕ) (newest : Bool) (b : Blob) (behind torn : Bool) → Leftover seal P b.content first from newest behind torn → StandsSettled b → behind ≡ false → torn ≡ false
     → IsCleared seal P first from newest b.settled
 rest_cleared seal P first from newest b behind torn left rest no_behind no_torn = subst (λ (c : List ℕ). IsCleared seal P first from newest c) (sym (ap (λ (x : Blob). x.settled) rest)) (record {
   short = elim (cases_lt (page_at P (pages_of first from)) (length b.content)) [

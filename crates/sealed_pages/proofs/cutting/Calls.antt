@@ -16,7 +16,7 @@ use Rattle.sealed_pages.specs.lemmas.slots.SlotSteps.{held_slot, length-slot_byt
 use Rattle.sealed_pages.specs.lemmas.slots.Steps.{slot_high}
 use Rattle.blob_device.specs.lemmas.Moments.{ok_blob, only_start}
 use Rattle.sealed_pages.specs.ChanceSeal.{Leaves, Sealing}
-use Rattle.sealed_pages.specs.Cutting.{IsAtRest}
+use Rattle.sealed_pages.specs.Cutting.{StandsSettled}
 use Rattle.sealed_pages.specs.Flushing.{with_slot, no_slot, Covers, Held}
 use Rattle.sealed_pages.specs.SealedPrefix.{sealed_prefix}
 use Rattle.sealed_pages.specs.Slots.{slot_length, page_length, best_slot, slot_bytes}
@@ -28,7 +28,7 @@ use Rattle.sealed_pages.specs.lemmas.cutting.Calls.{sealing_less}
 pub settled_after : (key : Key) (change : Change) (v u : Unit {0}) (t0 t1 t2 : Timeline) → Passes {T = Unit {0}} key change (Ok v) t0 t1 → Passes {T = Unit {0}} key Settle (Ok u) t1 t2 → disk t2 key ≡ settled_at (done change (disk t0 key)).content
 settled_after key change v u t0 t1 t2 first second = ok_blob key Settle u t1 t2 second ∙ ap (λ (b : Blob). settled_at b.content) (ok_blob key change v t0 t1 first)
 
-module _ (seal : List ℕ → ℕ) (P : ℕ) (pos : 1 ≤ P) (key : Key) (t0 : Timeline) (rest : IsAtRest (disk t0 key)) where
+module _ (seal : List ℕ → ℕ) (P : ℕ) (pos : 1 ≤ P) (key : Key) (t0 : Timeline) (rest : StandsSettled (disk t0 key)) where
   -- one change that touches nothing held, and a sync
   module _ (bytes : List ℕ) (L : ℕ) (σ : ℕ → Bool) (covers : Covers seal P (disk t0 key).content L σ) (sound : SoundTo seal P bytes (disk t0 key).content) where
     begun : Sealed (Held seal P (disk t0 key).content L σ) (view (disk t0 key).content) (SoundTo seal P bytes) (disk t0 key)
@@ -111,7 +111,7 @@ pub sealing_then : (seal : List ℕ → ℕ) (P : ℕ) (bytes : List ℕ) (L : �
 sealing_then seal P bytes L key a b c first second = only_then a b c key (Leaves seal P bytes L) first second
 
 -- no call was made
-pub rest_sealing : (seal : List ℕ → ℕ) (P : ℕ) → 1 ≤ P → (key : Key) (t : Timeline) → IsAtRest (disk t key) → (j : ℕ) → Sealing seal P (sealed_prefix seal P (disk t key).content) (min (j * P) (length (sealed_prefix seal P (disk t key).content))) key t t
+pub rest_sealing : (seal : List ℕ → ℕ) (P : ℕ) → 1 ≤ P → (key : Key) (t : Timeline) → StandsSettled (disk t key) → (j : ℕ) → Sealing seal P (sealed_prefix seal P (disk t key).content) (min (j * P) (length (sealed_prefix seal P (disk t key).content))) key t t
 rest_sealing seal P pos key t rest j = sealing_less seal P (sealed_prefix seal P (disk t key).content) (length (sealed_prefix seal P (disk t key).content)) (min (j * P) (length (sealed_prefix seal P (disk t key).content))) key t t (omega arith)
     (only_start t key (Leaves seal P (sealed_prefix seal P (disk t key).content) (length (sealed_prefix seal P (disk t key).content))) (rest_leaves seal P (disk t key) pos rest))
 

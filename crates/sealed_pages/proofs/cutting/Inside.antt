@@ -8,7 +8,7 @@ use Rattle.blob_device.specs.declared.device.Device as device
 use Rattle.blob_device.specs.declared.error.DevError.{DevError}
 use Rattle.sealed_pages.specs.ChanceSeal.{Sealing}
 use Rattle.sealed_pages.specs.Cuts.{CutsLater, AddsSlot, ClearsSlot, CutsInside}
-use Rattle.sealed_pages.specs.Cutting.{IsAtRest}
+use Rattle.sealed_pages.specs.Cutting.{StandsSettled}
 use Rattle.sealed_pages.specs.Entries.{NoReads}
 use Rattle.sealed_pages.specs.Flushing.{Alone, no_slot}
 use Rattle.sealed_pages.specs.SealedPrefix.{sealed_prefix}
@@ -49,7 +49,7 @@ module _ {D : Type 0} (dev : device.Ghosts D) (seal : List ℕ → ℕ) (P : ℕ
 
   -- the later pages are cut
   module _ (old mid : D) where
-    cut_leaves : {r : Result ℕ DevError} → CutsLater dev seal P blob old mid (page + 1) r → dev.Tells → IsAtRest (disk (dev.time old) blob) → Cuttable seal P page bytes second (content old) → Leaving old old mid
+    cut_leaves : {r : Result ℕ DevError} → CutsLater dev seal P blob old mid (page + 1) r → dev.Tells → StandsSettled (disk (dev.time old) blob) → Cuttable seal P page bytes second (content old) → Leaving old old mid
     cut_leaves cut t rest a =
         sealing_less seal P (sealed_prefix seal P (content old)) (min ((page + 1) * P) (length (sealed_prefix seal P (content old)))) (page * P + length bytes) blob (dev.time old) (dev.time mid)
         (omega (arith, a.inside, short, times_next page P)) (cut.crashes t rest)
@@ -68,7 +68,7 @@ module _ {D : Type 0} (dev : device.Ghosts D) (seal : List ℕ → ℕ) (P : ℕ
 
     -- then the new slot is written beside the old one
     module _ (n : ℕ) (cut : CutsLater dev seal P blob old mid (page + 1) (Ok n)) (last : D) (fits : (x : List ℕ) → seal x < 2 ^ 32) (small : P < 2 ^ 16) where
-      add_leaves : {r : Result ℕ DevError} → AddsSlot dev seal P blob mid last page bytes (not second) r → dev.Tells → IsAtRest (disk (dev.time old) blob) → Cuttable seal P page bytes second (content old) → Leaving old old last
+      add_leaves : {r : Result ℕ DevError} → AddsSlot dev seal P blob mid last page bytes (not second) r → dev.Tells → StandsSettled (disk (dev.time old) blob) → Cuttable seal P page bytes second (content old) → Leaving old old last
       add_leaves add t rest a =
           both_any seal P pos (content old) page second bytes fits small some short a.own a.covered a.page_is a.inside blob (dev.time old) (dev.time mid) (dev.time last) (cut_leaves cut t rest a)
           (later_any seal P pos (content old) page second bytes fits small some short a.own a.covered a.page_is a.inside (sealed_prefix seal P (content mid)) (length (sealed_prefix seal P (content mid))) blob (dev.time mid) (dev.time last)

@@ -11,7 +11,7 @@ use Rattle.sealed_pages.specs.Buffer.{Buffer, key_of, size_of, flushed_of, bytes
 use Rattle.sealed_pages.specs.Cached.{IsCachedOf, AreCachedOf}
 use Rattle.std.proofs.lemmas.List.Elements.{All-nil}
 use Rattle.sealed_pages.specs.ChanceSeal.{Leaves, Sealing}
-use Rattle.sealed_pages.specs.Cutting.{Settles, IsAtRest, FewReads}
+use Rattle.sealed_pages.specs.Cutting.{Settles, StandsSettled, FewReads}
 use Rattle.sealed_pages.specs.Entries.{IsOpenAt}
 use Rattle.sealed_pages.specs.Flushing.{Alone, Data}
 use Rattle.sealed_pages.specs.Reading.{Unchanged}
@@ -65,12 +65,12 @@ pub record Place (P len j keep : ℕ) : Type 0 where
 
 -- what a cut to `len` says: to the first `keep` bytes of page j
 pub record Cut {T : Type 0} (see : T → Buffer) (seal : List ℕ → ℕ) (P len j keep : ℕ) (key : Key) (r : Result T RError) (b d : Timeline) : Type 0 where
-  pub crashes : IsAtRest (disk b key) → page_at P j ≤ length (disk b key).content → len ≤ length (sealed_prefix seal P (disk b key).content) → Sealing seal P (sealed_prefix seal P (disk b key).content) len key b d
-  pub done : IsAtRest (disk b key) → page_at P j ≤ length (disk b key).content → len ≤ length (sealed_prefix seal P (disk b key).content) → IfOk r (λ v. Holds seal (see v) (take len (sealed_prefix seal P (disk b key).content)) (disk d key))
+  pub crashes : StandsSettled (disk b key) → page_at P j ≤ length (disk b key).content → len ≤ length (sealed_prefix seal P (disk b key).content) → Sealing seal P (sealed_prefix seal P (disk b key).content) len key b d
+  pub done : StandsSettled (disk b key) → page_at P j ≤ length (disk b key).content → len ≤ length (sealed_prefix seal P (disk b key).content) → IfOk r (λ v. Holds seal (see v) (take len (sealed_prefix seal P (disk b key).content)) (disk d key))
   pub bytes : (all : List ℕ) → Data P all len (view (disk b key).content) → length all ≡ len → IfOk r (λ v. bytes_of (see v) (disk d key).content ≡ all)
   pub backed : (all : List ℕ) → Data P all len (view (disk b key).content) → length all ≡ len → IfOk r (λ v. HasFlushed (see v) (disk d key).content)
   pub memory : IfOk r (λ v. ((see v).from ≤ page_length seal P (disk d key).content (see v).first) × ((see v).cache ≡ []))
-  pub rests : OnOk r (IsAtRest (disk d key))
+  pub rests : OnOk r (StandsSettled (disk d key))
   pub alone : Alone key b d
   pub prefix : SparesPrefix (page_at P j) key b d
   pub shorter : OnOk r (adopted_size seal P (disk d key).content ≤ len)
@@ -163,7 +163,7 @@ no_page B (Err e) p cause is = elim cause [ inl none ↦ cc (none, is) | inr fai
 
 -- how far the blob is sealed with these bytes, before a cut to `len`
 record Reached (seal : List ℕ → ℕ) (P len j : ℕ) (all : List ℕ) (b : Blob) : Type 0 where
-  pub rest : IsAtRest b
+  pub rest : StandsSettled b
   pub stands : page_at P j ≤ length b.content
   pub inside : len ≤ length (sealed_prefix seal P b.content)
   pub same : sealed_prefix seal P b.content ≡ all
@@ -344,8 +344,8 @@ module _ {T : Type 0} {see : T → Buffer} {seal : List ℕ → ℕ} {u w : Buff
     pub refused_data : IsBacked seal u (blob_of u a).content → Data u.page_size (meant u a) (size_of u) (view (blob_of u d).content)
     refused_data backed = subst (λ (x : Blob). Data u.page_size (meant u a) (size_of u) (view x.content)) (sym still) (own backed)
 
-    pub refused_rests : IsAtRest (blob_of u b) → IsAtRest (blob_of u d)
-    refused_rests rest = subst IsAtRest (sym still) rest
+    pub refused_rests : StandsSettled (blob_of u b) → StandsSettled (blob_of u d)
+    refused_rests rest = subst StandsSettled (sym still) rest
 
   pub cut_sealed : IsSealed seal u (blob_of u a) → IfOk r (λ v. IsSealed seal (see v) (blob_of u d))
   cut_sealed sealed = sealed_of (sealed_so_far sealed)
@@ -369,7 +369,7 @@ module _ {T : Type 0} {see : T → Buffer} {seal : List ℕ → ℕ} {u w : Buff
   cut_leaves sealed = leaves_cut (sealed_so_far sealed)
 
   pub cut_unrecovered : IsUnrecovered seal u (blob_of u a) → length (prefix_of seal u a) < len → IfOk r (λ v. IsUnrecovered seal (see v) (blob_of u d))
-  cut_unrecovered un past = if_ok_with {Q = (keep ≤ page_length seal u.page_size (blob_of u b).content j) × IsAtRest (blob_of u d)} r (on_ok_two r (λ x y. (x, y)) k.covered k.rests)
+  cut_unrecovered un past = if_ok_with {Q = (keep ≤ page_length seal u.page_size (blob_of u b).content j) × StandsSettled (blob_of u d)} r (on_ok_two r (λ x y. (x, y)) k.covered k.rests)
       (both_ok r (λ v. IsCut u len j (see v)) (λ v. IsBacked seal (see v) (blob_of u d).content) x.marks (cut_is_backed un.backed))
       (λ v both is. subst (λ (p : ℕ). length (sealed_prefix seal p (blob_of u b).content) < j * p + keep → SparesPrefix (page_at p j) (key_of u) b d → keep ≤ page_length seal p (blob_of u b).content j → j * p ≤ (see v).settled → (see v).page_size ≡ p
       → IsUnrecovered seal (see v) (blob_of u d)) s.page

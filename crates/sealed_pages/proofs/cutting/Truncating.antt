@@ -18,7 +18,7 @@ use Rattle.std.proofs.Math.Nat.{div-mul-le_self, mod-eq-sub-div-mul}
 use Rattle.std.proofs.lemmas.Nat.{le-div}
 use Rattle.sealed_pages.specs.ChanceSeal.{Leaves, Sealing}
 use Rattle.sealed_pages.specs.Buffer.{extent, Buffer, size_of, flushed_of, bytes_of, Holds, HasFlushed}
-use Rattle.sealed_pages.specs.Cutting.{IsAtRest, Settles, page_cut}
+use Rattle.sealed_pages.specs.Cutting.{StandsSettled, Settles, page_cut}
 use Rattle.sealed_pages.specs.Flushing.{Alone, with_slot, next_slot, no_slot, Quiet, Data, Sound, Covers, Stands, Below, Ready}
 use Rattle.sealed_pages.specs.Reading.{Unchanged}
 use Rattle.sealed_pages.specs.SealedPrefix.{pages_in, sealed_prefix, adopted_size}
@@ -58,8 +58,8 @@ module _ (seal : List ℕ → ℕ) (P : ℕ) where
   data_all : (all c : List ℕ) (F : ℕ) (σ : ℕ → Bool) → Sound seal P all c → Covers seal P c F σ → Data P all F (view c)
   data_all all c F σ sound covers k i lt below = sound.same k (σ k) i (omega (arith, lt, below, covers k (omega (arith, below))))
 
-  -- at rest with these bytes, nothing else to come to match
-  pub rest_ready : (all : List ℕ) (F : ℕ) (σ : ℕ → Bool) (newest : Bool) (b : Blob) → 1 ≤ P → F ≡ length all → IsAtRest b → SoundTo seal P all b.content → Below seal P F b.content → Covers seal P b.content F σ → Quiet P F (view b.content)
+  -- settled with these bytes, nothing else to come to match
+  pub rest_ready : (all : List ℕ) (F : ℕ) (σ : ℕ → Bool) (newest : Bool) (b : Blob) → 1 ≤ P → F ≡ length all → StandsSettled b → SoundTo seal P all b.content → Below seal P F b.content → Covers seal P b.content F σ → Quiet P F (view b.content)
       → ((k : ℕ) → k * P < F → F < k * P + P → σ k ≡ newest) → Ready seal P all F F newest b
   rest_ready all F σ newest b pos is rest sound below covers quiet head = record {
     w = b.content;
@@ -178,12 +178,12 @@ extent_less P n m pos le =
 
 -- what a cut inside a page says of its moments, for a blob of this disk
 abbrev pub InsideTold : (List ℕ → ℕ) → ℕ → ℕ → Bool → List ℕ → Timeline → Timeline → Disk → Key → Type 0
-InsideTold seal P j second page b d x key = IsAtRest (x key) → best_slot seal P (x key).content j ≡ second → length page ≤ page_length seal P (x key).content j → page ≡ take (length page) (drop (page_at P j) (x key).content)
+InsideTold seal P j second page b d x key = StandsSettled (x key) → best_slot seal P (x key).content j ≡ second → length page ≤ page_length seal P (x key).content j → page ≡ take (length page) (drop (page_at P j) (x key).content)
     → j * P + length page ≤ length (sealed_prefix seal P (x key).content) → Sealing seal P (sealed_prefix seal P (x key).content) (j * P + length page) key b d
 
 -- first a look, which changes nothing
 module _ (seal : List ℕ → ℕ) (P : ℕ) (pos : 1 ≤ P) (key : Key) (a b : Timeline) (look : Unchanged a b) where
-  pub look_sealing : (L : ℕ) → IsAtRest (disk a key) → L ≤ length (sealed_prefix seal P (disk a key).content) → Sealing seal P (sealed_prefix seal P (disk a key).content) L key a b
+  pub look_sealing : (L : ℕ) → StandsSettled (disk a key) → L ≤ length (sealed_prefix seal P (disk a key).content) → Sealing seal P (sealed_prefix seal P (disk a key).content) L key a b
   look_sealing L rest le = sealing_less seal P (sealed_prefix seal P (disk a key).content) (length (sealed_prefix seal P (disk a key).content)) L key a b le
       (always_weaker a b (λ x. x ≡ disk a) (OnlyAt key (disk a) (Leaves seal P (sealed_prefix seal P (disk a key).content) (length (sealed_prefix seal P (disk a key).content))))
       (λ x same. record { here = subst (λ (y : Disk). Leaves seal P (sealed_prefix seal P (disk a key).content) (length (sealed_prefix seal P (disk a key).content)) (y key)) (sym same) (rest_leaves seal P (disk a key) pos rest); others = λ q other. ap (λ (y : Disk). y q) same }) look)

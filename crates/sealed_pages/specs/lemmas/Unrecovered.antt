@@ -25,7 +25,7 @@ use Rattle.blob_device.specs.lemmas.Moments.{always_now, ok_blob}
 use Rattle.sealed_pages.specs.Buffer.{Buffer, size_of, bytes_of, IsBacked, IsSealed}
 use Rattle.sealed_pages.specs.ChanceSeal.{NoChanceSeal, Leaves, Sealing}
 use Rattle.sealed_pages.specs.Contents.{IsHad}
-use Rattle.sealed_pages.specs.Cutting.{IsAtRest}
+use Rattle.sealed_pages.specs.Cutting.{StandsSettled}
 use Rattle.sealed_pages.specs.SealedPrefix.{pages_in, sealed_from, sealed_prefix, adopted_size, Prefix, data_from}
 use Rattle.sealed_pages.specs.Slots.{slot_length, page_length, best_slot}
 use Rattle.sealed_pages.specs.Unrecovered.{HasBytesBelow, SparedPrefix, SparesPrefix, HasPrefix, KeepsPrefix, IsUnrecovered, IsAdopted}
@@ -181,7 +181,7 @@ module _ (seal : List ℕ → ℕ) (u : Buffer) where
     now : HasBytesBelow (page_at u.page_size (un.page + 1)) (view (disk a key).content) (disk b key)
     now = (prefix_now (page_at u.page_size end) key a b spares).crashes (page_at u.page_size (un.page + 1)) (view (disk a key).content) reach un.prefix
 
-    pub spared_stays : (v : Buffer) → v.page_size ≡ u.page_size → un.page < v.first → (un.page + 1) * u.page_size ≤ v.settled → IsBacked seal v (disk b key).content → (v.settled ≡ size_of v → IsAtRest (disk b key)) → IsHad (disk b key) → IsUnrecovered seal v (disk b key)
+    pub spared_stays : (v : Buffer) → v.page_size ≡ u.page_size → un.page < v.first → (un.page + 1) * u.page_size ≤ v.settled → IsBacked seal v (disk b key).content → (v.settled ≡ size_of v → StandsSettled (disk b key)) → IsHad (disk b key) → IsUnrecovered seal v (disk b key)
     spared_stays v same below settled backed rest had = record {
       page = un.page;
       below = below;

@@ -8,7 +8,7 @@ use Rattle.blob_device.specs.Timeline.{Timeline, disk}
 use Rattle.sealed_pages.specs.Buffer.{Buffer, size_of, bytes_of, IsBacked, IsSealed}
 use Rattle.sealed_pages.specs.ChanceSeal.{NoChanceSeal, Sealing}
 use Rattle.sealed_pages.specs.ChanceSeal as chance
-use Rattle.sealed_pages.specs.Cutting.{IsAtRest}
+use Rattle.sealed_pages.specs.Cutting.{StandsSettled}
 use Rattle.sealed_pages.specs.declared.page_blob.PageBlob.{PageBlob}
 use Rattle.sealed_pages.specs.SealedPrefix.{sealed_prefix, adopted_size}
 use Rattle.sealed_pages.specs.Shown.{shown}
@@ -68,34 +68,34 @@ module _ (seal : List ℕ → ℕ) (u : Buffer) (key : Key) (old new : Timeline)
     ]
 
   -- over a blob that has settled
-  at_rest : (v : Buffer) → IsAtRest (disk new key) → IsAdopted seal v (disk new key) → Stands seal v (disk new key)
-  at_rest v rest adopted = record { adopted = adopted; rest = λ e. rest }
+  stands_settled : (v : Buffer) → StandsSettled (disk new key) → IsAdopted seal v (disk new key) → Stands seal v (disk new key)
+  stands_settled v rest adopted = record { adopted = adopted; rest = λ e. rest }
 
   -- what a call that cut nothing answers
-  pub stays : (v : Buffer) → Stands seal u (disk old key) → IsAtRest (disk new key) → (IsSealed seal u (disk old key) → IsSealed seal v (disk new key))
+  pub stays : (v : Buffer) → Stands seal u (disk old key) → StandsSettled (disk new key) → (IsSealed seal u (disk old key) → IsSealed seal v (disk new key))
       → (IsUnrecovered seal u (disk old key) → IsUnrecovered seal v (disk new key)) → Stands seal v (disk new key)
   stays v stands rest sealed unrecovered = elim stands.adopted [
-    | inl s ↦ at_rest v rest (inl (sealed s))
-    | inr un ↦ at_rest v rest (inr (unrecovered un))
+    | inl s ↦ stands_settled v rest (inl (sealed s))
+    | inr un ↦ stands_settled v rest (inr (unrecovered un))
   ]
 
   module _ {T E : Type 0} (r : Result T E) (shows : T → Buffer) where
-    pub uncut_stands : Stands seal u (disk old key) → OnOk r (IsAtRest (disk new key)) → (IsSealed seal u (disk old key) → IfOk r (λ v. IsSealed seal (shows v) (disk new key)))
+    pub uncut_stands : Stands seal u (disk old key) → OnOk r (StandsSettled (disk new key)) → (IsSealed seal u (disk old key) → IfOk r (λ v. IsSealed seal (shows v) (disk new key)))
         → (IsUnrecovered seal u (disk old key) → IfOk r (λ v. IsUnrecovered seal (shows v) (disk new key))) → IfOk r (λ v. Stands seal (shows v) (disk new key))
     uncut_stands stands rest sealed unrecovered = elim stands.adopted [
-      | inl s ↦ if_ok_with r rest (sealed s) (λ v has is. at_rest (shows v) has (inl is))
-      | inr un ↦ if_ok_with r rest (unrecovered un) (λ v has is. at_rest (shows v) has (inr is))
+      | inl s ↦ if_ok_with r rest (sealed s) (λ v has is. stands_settled (shows v) has (inl is))
+      | inr un ↦ if_ok_with r rest (unrecovered un) (λ v has is. stands_settled (shows v) has (inr is))
     ]
 
-    pub cut_stands : (len : ℕ) → Stands seal u (disk old key) → OnOk r (IsAtRest (disk new key)) → (IsSealed seal u (disk old key) → IfOk r (λ v. IsSealed seal (shows v) (disk new key)))
+    pub cut_stands : (len : ℕ) → Stands seal u (disk old key) → OnOk r (StandsSettled (disk new key)) → (IsSealed seal u (disk old key) → IfOk r (λ v. IsSealed seal (shows v) (disk new key)))
         → (IsRecovery seal u len (disk old key) → IfOk r (λ v. IsSealed seal (shows v) (disk new key)))
         → (IsUnrecovered seal u (disk old key) → length (sealed_prefix seal u.page_size (disk old key).content) < len → IfOk r (λ v. IsUnrecovered seal (shows v) (disk new key)))
         → IfOk r (λ v. Stands seal (shows v) (disk new key))
     cut_stands len stands rest sealed recovered unrecovered = elim stands.adopted [
-      | inl s ↦ if_ok_with r rest (sealed s) (λ v has is. at_rest (shows v) has (inl is))
+      | inl s ↦ if_ok_with r rest (sealed s) (λ v has is. stands_settled (shows v) has (inl is))
       | inr un ↦ elim (cases_lt (length (sealed_prefix seal u.page_size (disk old key).content)) len) [
-        | inl behind ↦ if_ok_with r rest (unrecovered un behind) (λ v has is. at_rest (shows v) has (inr is))
-        | inr within ↦ if_ok_with r rest (recovered (un, within)) (λ v has is. at_rest (shows v) has (inl is))
+        | inl behind ↦ if_ok_with r rest (unrecovered un behind) (λ v has is. stands_settled (shows v) has (inr is))
+        | inr within ↦ if_ok_with r rest (recovered (un, within)) (λ v has is. stands_settled (shows v) has (inl is))
       ]
     ]
 

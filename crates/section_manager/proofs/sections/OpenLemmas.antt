@@ -10,7 +10,7 @@ use Rattle.blob_device.specs.Timeline.{Timeline, disk, Passes, OnlyAt}
 use Rattle.blob_device.specs.lemmas.Moments.{always_then, always_weaker, always_now, only_start, only_on, ok_blob, err_has}
 use Rattle.blob_device.specs.lemmas.Opened.{entered_other}
 use Rattle.blob_device.specs.lemmas.Puts.{put_same, same_or_other}
-use Rattle.sealed_pages.specs.Cutting.{IsAtRest}
+use Rattle.sealed_pages.specs.Cutting.{StandsSettled}
 use Rattle.sealed_pages.specs.Entries.{IsOpenAt}
 use Rattle.sealed_pages.specs.Reading.{Unchanged}
 use Rattle.sealed_pages.specs.lemmas.looking.Looking.{unchanged_now}
@@ -49,9 +49,9 @@ module _ (k p : Key) (is : p ≡ k) (a b : Timeline) where
     opened_made v passes = ap (λ (d : Disk). d k) (unchanged_now b c look) ∙ made_blob v passes
 
     -- what holds of a buffer over the blob, which has settled, by another name of it
-    pub opened_has : {T : Type 0} (v : T) (q : Key) (P : Blob → Type 0) → q ≡ k → Passes p Make (Ok v) a b → (IsAtRest (disk b q) → P (disk b q)) → P (disk c k)
+    pub opened_has : {T : Type 0} (v : T) (q : Key) (P : Blob → Type 0) → q ≡ k → Passes p Make (Ok v) a b → (StandsSettled (disk b q) → P (disk b q)) → P (disk c k)
     opened_has v q P same passes has = subst P (sym (ap (λ (d : Disk). d k) (unchanged_now b c look)))
-        (subst (λ (x : Key). IsAtRest (disk b x) → P (disk b x)) same has (subst IsAtRest (sym (made_blob v passes)) refl))
+        (subst (λ (x : Key). StandsSettled (disk b x) → P (disk b x)) same has (subst StandsSettled (sym (made_blob v passes)) refl))
 
 -- The blob at k is entered in the list, by a call that names it p.
 module _ (k p : Key) (is : p ≡ k) (n : ℕ) (old mid : OpenedList) (enters : mid ≡ entered old p n) where

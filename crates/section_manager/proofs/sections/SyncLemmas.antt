@@ -9,7 +9,7 @@ use Rattle.blob_device.specs.Disk.{Key, Blob, Disk}
 use Rattle.blob_device.specs.Opened.{OpenedList}
 use Rattle.blob_device.specs.Timeline.{Timeline, disk, Always, Each}
 use Rattle.blob_device.specs.lemmas.Moments.{always_now, always_weaker, only_start}
-use Rattle.sealed_pages.specs.Cutting.{IsAtRest}
+use Rattle.sealed_pages.specs.Cutting.{StandsSettled}
 use Rattle.sealed_pages.specs.Entries.{IsOpenAt}
 use Rattle.sealed_pages.specs.lemmas.slots.PageCalls.{only_weaker}
 use Rattle.section_manager.specs.lemmas.Walk.{Makes, Rules, Tried, Tries, Walked, Walking, tried_more, tried_start, walked_more, walked_start}
@@ -149,7 +149,7 @@ module _ {F B : Type 0} (g : buffer.Ghosts B) (gives : F → Setting) (told : Ty
     settled = did.settled;
     done = did.done;
     bytes = λ t. ap (λ (b : Blob). g.bytes v b.content) (is t) ∙ did.bytes t ∙ sym (ap (λ (b : Blob). g.bytes u b.content) (was t));
-    rests = λ t. subst IsAtRest (sym (is t)) (did.rests t);
+    rests = λ t. subst StandsSettled (sym (is t)) (did.rests t);
     whole = λ t whole. subst (g.IsWhole v) (sym (is t)) (did.whole t (subst (g.IsWhole u) (was t) whole));
     again = λ t whole. subst (λ (b : Blob). g.holds (g.setting v) b.content ≡ g.bytes v b.content) (sym (is t)) (did.again t (subst (g.IsWhole u) (was t) whole));
     same = did.same;

@@ -8,7 +8,7 @@ use Rattle.blob_device.specs.Change.{written}
 use Rattle.blob_device.specs.Disk.{Blob, past}
 use Rattle.sealed_pages.specs.lemmas.Write.{written_nothing}
 use Rattle.sealed_pages.specs.declared.write_blob.WriteBlob.{WriteBlob}
-use Rattle.sealed_pages.specs.Cutting.{IsAtRest}
+use Rattle.sealed_pages.specs.Cutting.{StandsSettled}
 use Rattle.section_manager.specs.Leaving.{Leaves}
 use Rattle.section_manager.specs.unsealed.Buffer.{Stands, IsWhole, IsOldOrPrefix, MayKeep, content_of, count_of, settled_of, is_unsettled}
 use Rattle.blob_device.specs.Lengths.{length-written}
@@ -64,7 +64,7 @@ settled_within u b stands = omega (arith, u.order)
 pub all_settled : (u : WriteBlob) → is_unsettled u ≡ false → settled_of u ≡ count_of u
 all_settled u idle = let parts = idle_parts u.dirty (length u.pending.items) u.at u.end idle in omega (arith, u.rests parts.0, parts.1.0, parts.1.1)
 
-pub rested : (u : WriteBlob) (b : Blob) → Stands u b → is_unsettled u ≡ false → IsAtRest b
+pub rested : (u : WriteBlob) (b : Blob) → Stands u b → is_unsettled u ≡ false → StandsSettled b
 rested u b stands idle = stands.over.clean (idle_parts u.dirty (length u.pending.items) u.at u.end idle).0
 
 pub found_again : (u : WriteBlob) (b : Blob) → Stands u b → IsWhole u b → is_unsettled u ≡ false → b.content ≡ content_of u b.content

@@ -10,7 +10,7 @@ use Rattle.sealed_pages.specs.declared.page_blob.PageBlob.{PageBlob}
 use Rattle.sealed_pages.specs.Shown.{shown}
 use Rattle.sealed_pages.specs.Buffer.{Buffer, key_of, size_of, bytes_of, IsBacked, IsSealed}
 use Rattle.sealed_pages.specs.ChanceSeal.{Leaves, Sealing}
-use Rattle.sealed_pages.specs.Cutting.{IsAtRest, Settles}
+use Rattle.sealed_pages.specs.Cutting.{StandsSettled, Settles}
 use Rattle.sealed_pages.specs.SealedPrefix.{sealed_prefix}
 use Rattle.sealed_pages.specs.Unrecovered.{IsAdopted, IsUnrecovered, IsRecovery, KeepsPrefix}
 use Rattle.sealed_pages.specs.lemmas.Reaching.{rest_leaves}
@@ -45,7 +45,7 @@ module _ {S : Type 0} {gs : _} (seal : List ℕ → ℕ) (told : Type 0) (u v : 
     full = all_flushed (shown u) u.fit.within u.order settled
 
     pub cut_at : v.page_size ≡ u.page_size → size_of (shown v) ≡ min (size_of (shown u)) n → (n < size_of (shown u) → v.settled ≡ n) → (size_of (shown u) ≤ n → (shown v ≡ shown u) × (b ≡ a))
-        → (told → Stands seal (shown u) (disk a (key_of (shown u)))) → (told → n < size_of (shown u) → IsAtRest (disk b (key_of (shown u)))) → (told → n ≤ length (sealed_prefix seal u.page_size (disk a (key_of (shown u))).content))
+        → (told → Stands seal (shown u) (disk a (key_of (shown u)))) → (told → n < size_of (shown u) → StandsSettled (disk b (key_of (shown u)))) → (told → n ≤ length (sealed_prefix seal u.page_size (disk a (key_of (shown u))).content))
         → (told → IsSealed seal (shown u) (disk a (key_of (shown u))) → IsSealed seal (shown v) (disk b (key_of (shown u))))
         → (told → IsRecovery seal (shown u) n (disk a (key_of (shown u))) → IsSealed seal (shown v) (disk b (key_of (shown u))))
         → (told → IsRecovery seal (shown u) n (disk a (key_of (shown u))) → Settles seal u.page_size (take n (sealed_prefix seal u.page_size (disk a (key_of (shown u))).content)) (disk b (key_of (shown u))))

@@ -8,7 +8,7 @@ use Rattle.blob_device.specs.Timeline.{Timeline, disk}
 use Rattle.sealed_pages.specs.declared.page_blob.PageBlob.{PageBlob}
 use Rattle.sealed_pages.specs.Shown.{shown}
 use Rattle.sealed_pages.specs.Buffer.{key_of, size_of}
-use Rattle.sealed_pages.specs.Cutting.{IsAtRest}
+use Rattle.sealed_pages.specs.Cutting.{StandsSettled}
 use Rattle.sealed_pages.specs.Entries.{IsOpenAt}
 use Rattle.section_manager.specs.declared.buffer.SectionBuffer as buffer
 use Rattle.section_manager.specs.Entries.{OnlyOwnEntry}
@@ -42,11 +42,11 @@ open_at v K o key is = subst (λ (k : Key). IsOpenAt o k v.end) key is
 
 -- a buffer that was cut stands over the blob
 pub cut_stands : {S : Type 0} {gs : _} (seal : List ℕ → ℕ) {told : Type 0} (bu v : PageBlob S gs) (K : Key) (a0 b : Timeline) (key : key_of (shown bu) ≡ K) (n : ℕ) (t : told) → Stands seal (shown bu) (disk a0 K) → bu.settled ≡ size_of (shown bu)
-    → IsCutBack seal told bu (disk a0 K) v (disk b K) n → (n < size_of (shown bu) → IsAtRest (disk b (key_of (shown bu)))) → (size_of (shown bu) ≤ n → b ≡ a0) → Stands seal (shown v) (disk b K)
+    → IsCutBack seal told bu (disk a0 K) v (disk b K) n → (n < size_of (shown bu) → StandsSettled (disk b (key_of (shown bu)))) → (size_of (shown bu) ≤ n → b ≡ a0) → Stands seal (shown v) (disk b K)
 cut_stands seal bu v K a0 b key n t stands settled cut rests idle = record {
   adopted = inl (cut.sealed t);
   rest = λ all. elim (cases_lt n (size_of (shown bu))) [
-    | inl less ↦ subst (λ (k : Key). IsAtRest (disk b k)) key (rests less)
-    | inr past ↦ subst (λ (x : Timeline). IsAtRest (disk x K)) (sym (idle past)) (stands.rest settled)
+    | inl less ↦ subst (λ (k : Key). StandsSettled (disk b k)) key (rests less)
+    | inr past ↦ subst (λ (x : Timeline). StandsSettled (disk x K)) (sym (idle past)) (stands.rest settled)
   ];
 }

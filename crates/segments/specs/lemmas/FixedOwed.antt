@@ -7,7 +7,7 @@ use Rattle.blob_device.specs.Disk.{Blob}
 use Rattle.sealed_pages.specs.declared.page_blob.PageBlob.{PageBlob}
 use Rattle.sealed_pages.specs.Shown.{shown}
 use Rattle.sealed_pages.specs.Buffer.{size_of}
-use Rattle.sealed_pages.specs.Cutting.{IsAtRest}
+use Rattle.sealed_pages.specs.Cutting.{StandsSettled}
 use Rattle.sealed_pages.specs.SealedPrefix.{sealed_prefix}
 use Rattle.segments.specs.FixedReplay.{SameItems, IsSameOrCut}
 
@@ -23,13 +23,13 @@ module _ (seal : List ℕ → ℕ) (P size : ℕ) where
     items = subst (λ (n : ℕ). take (n * size) (sealed_prefix seal P d.content) ≡ take (n * size) (sealed_prefix seal P c.content)) first.count second.items ∙ first.items;
     rests = elim second.rests [
       | inr rest ↦ inr rest
-      | inl same ↦ elim first.rests [ inl also ↦ inl (same ∙ also) | inr rest ↦ inr (subst IsAtRest (sym same) rest) ]
+      | inl same ↦ elim first.rests [ inl also ↦ inl (same ∙ also) | inr rest ↦ inr (subst StandsSettled (sym same) rest) ]
     ];
   }
 
   -- a cut of the sealed prefix behind its last whole item, the n-th
   pub items_cut : (b c : Blob) (n : ℕ) → 1 ≤ size → length (sealed_prefix seal P b.content) / size ≡ n → n * size ≤ length (sealed_prefix seal P b.content) → sealed_prefix seal P c.content ≡ take (n * size) (sealed_prefix seal P b.content)
-      → c.there ≡ b.there → (c ≡ b) ⊎ IsAtRest c → SameItems seal P size b c
+      → c.there ≡ b.there → (c ≡ b) ⊎ StandsSettled c → SameItems seal P size b c
   items_cut b c n pos count long cut there rests = record {
     there = there;
     count = ap (λ (m : ℕ). m / size) length_cut ∙ div-mul-add n size 0 (omega (arith, pos)) ∙ sym count;

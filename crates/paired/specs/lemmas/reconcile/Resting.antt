@@ -7,7 +7,7 @@ use Rattle.blob_device.specs.Disk.{Key, Blob, Disk, MayLeave, IsSettled, past, r
 use Rattle.blob_device.specs.Opened.{OpenedList}
 use Rattle.sealed_pages.specs.Buffer.{bytes_of, size_of}
 use Rattle.sealed_pages.specs.ChanceSeal as pages
-use Rattle.sealed_pages.specs.Cutting.{IsAtRest, Settles}
+use Rattle.sealed_pages.specs.Cutting.{StandsSettled, Settles}
 use Rattle.sealed_pages.specs.SealedPrefix.{sealed_prefix}
 use Rattle.sealed_pages.specs.Shown.{shown}
 use Rattle.sealed_pages.specs.declared.page_blob.PageBlob.{PageBlob}
@@ -47,18 +47,18 @@ use Rattle.paired.specs.Records.{records, is_sound}
 use Rattle.paired.specs.lemmas.Records.{length-records}
 use Rattle.blob_device.proofs.general.Options.{none_or_value, some_same, value_of}
 
-pub at_rest_settled : (b : Blob) → IsAtRest b → IsSettled b
-at_rest_settled b is = subst IsSettled (sym is) (record { sure = refl; since = refl; loose = refl; content = refl })
+pub stands_is_settled : (b : Blob) → StandsSettled b → IsSettled b
+stands_is_settled b is = subst IsSettled (sym is) (record { sure = refl; since = refl; loose = refl; content = refl })
 
--- each crash leaves a blob at rest as it reads
-pub rest_left : (b : Blob) → IsAtRest b → (left : Option (List ℕ)) → MayLeave b left → left ≡ reads b
-rest_left b is left may = left_as_read b (at_rest_settled b is) left may
+-- each crash leaves a settled blob as it reads
+pub rest_left : (b : Blob) → StandsSettled b → (left : Option (List ℕ)) → MayLeave b left → left ≡ reads b
+rest_left b is left may = left_as_read b (stands_is_settled b is) left may
 
--- what holds of a content that is all of its past holds of a blob at rest
-pub of_rest : (P : List (List ℕ) → List ℕ → Type 0) (b : Blob) → IsAtRest b → ((c : List ℕ) → P (c ∷ []) c) → P (past b) (unwrap_or (reads b) [])
+-- what holds of a content that is all of its past holds of a settled blob
+pub of_rest : (P : List (List ℕ) → List ℕ → Type 0) (b : Blob) → StandsSettled b → ((c : List ℕ) → P (c ∷ []) c) → P (past b) (unwrap_or (reads b) [])
 of_rest P b is has = subst (λ (x : Blob). P (past x) (unwrap_or (reads x) [])) (sym is) (has b.content)
 
-pub rest_there : (b : Blob) → IsAtRest b → b.there ≡ true
+pub rest_there : (b : Blob) → StandsSettled b → b.there ≡ true
 rest_there b is = ap (λ (x : Blob). x.there) is
 
 -- what a blob that is there reads as, and one that is not
@@ -154,20 +154,20 @@ module _ {F S : Type 0} {gs : _} {g : buffer.Ghosts (PageBlob S gs)} {gives : F 
       subst (λ (x : WriteBlob). (x.settled ≡ count_of x) × (is_unsettled x ≡ false)) (some_same w.value v (sym w.is ∙ held)) w.has
 
   module _ (t : told) where
-    -- a held section of records is at rest
-    pub index_rest : (s : ℕ) (v : PageBlob S gs) → i.held s ≡ Some v → IsAtRest (d (section_key l.index s))
-    index_rest s v held = subst (λ (k : Key). IsAtRest (d k)) (index_key s)
+    -- a held section of records is settled
+    pub index_rest : (s : ℕ) (v : PageBlob S gs) → i.held s ≡ Some v → StandsSettled (d (section_key l.index s))
+    index_rest s v held = subst (λ (k : Key). StandsSettled (d k)) (index_key s)
         (sealed_laws.rested l.seal (shown v) (d (key_of i s)) (rests.pages.stands v (d (key_of i s)) ((rests.index.disk t).stands s v held)) (sym (rests.pages.unsettled v) ∙ rests.index_settled s v held))
 
     pub absent_of : ((s : ℕ) → i.unopened s ≡ None) → (s : ℕ) → s < 2 ^ 64 → i.held s ≡ None → (d (section_key l.index s)).there ≡ false
     absent_of known s small none = subst (λ (k : Key). (d k).there ≡ false) (index_key s) (not_there i o d rests.index t s small none (known s))
 
     -- a held section of values has settled with its bytes
-    pub values_rest : (s : ℕ) (v : WriteBlob) → m.held s ≡ Some v → IsAtRest (d (section_key l.values s)) × ((d (section_key l.values s)).content ≡ glob.section_bytes m d s)
+    pub values_rest : (s : ℕ) (v : WriteBlob) → m.held s ≡ Some v → StandsSettled (d (section_key l.values s)) × ((d (section_key l.values s)).content ≡ glob.section_bytes m d s)
     values_rest s v held =
         let stands = (rests.values.over.disk t).stands s v held in
         let idle : is_unsettled v ≡ false = (value_idle s v held).1 in
-        subst (λ (k : Key). IsAtRest (d k) × ((d k).content ≡ glob.section_bytes m d s)) (values_key s) (
+        subst (λ (k : Key). StandsSettled (d k) × ((d k).content ≡ glob.section_bytes m d s)) (values_key s) (
           rested v (d (key_of m s)) stands idle,
           found_again v (d (key_of m s)) stands (idle_whole v (d (key_of m s)) stands idle) idle ∙ sym (ap (λ (x : Option WriteBlob). glob.bytes_held x (d (key_of m s)).content) held),
         )
@@ -203,17 +203,17 @@ module _ {F S : Type 0} {gs : _} {g : buffer.Ghosts (PageBlob S gs)} {gives : F 
     pub frames_at : (s : ℕ) → s < 2 ^ 64 → (rs : List (List ℕ)) → AllByRecursion (λ r. IsTrue (is_sound_in l (as_read d) s r) → WasThere (past (d (section_key l.values s))) (content_at (as_read d) l.values s) (l.place r)) rs
     frames_at s small rs = each_of (λ r. IsTrue (is_sound_in l (as_read d) s r) → WasThere (past (d (section_key l.values s))) (content_at (as_read d) l.values s) (l.place r)) (frame_at s small) rs
 
-    pub parts_no_chance : ((s : ℕ) → i.unopened s ≡ None) → (IsTrue l.marked → (side : Side) → IsAtRest (d (blob_of l.metadata side))) → NoChanceSeal l d (as_read d)
+    pub parts_no_chance : ((s : ℕ) → i.unopened s ≡ None) → (IsTrue l.marked → (side : Side) → StandsSettled (d (blob_of l.metadata side))) → NoChanceSeal l d (as_read d)
     parts_no_chance known copies = record {
       slots = slots_at known;
       frames = λ s small. frames_at s small (stored_records l (as_read d) s);
       copies = λ is side. of_rest (metadata.NoChanceSeal l.markers.seal) (d (blob_of l.metadata side)) (copies is side) (λ c version form body sealed. inl refl);
     }
 
-pub copy_rest : {told : Type 0} {l : Layout} {u : Store Key8 ℕ} {d : Disk} (marks : MarksRest told l u d) (t : told) (is : IsTrue l.marked) (side : Side) → IsAtRest (d (blob_of l.metadata side))
-copy_rest {u = u} {d = d} marks t is side = subst (λ (x : List ℕ). IsAtRest (d (blob_of x side))) (marks.here is) (go side)
+pub copy_rest : {told : Type 0} {l : Layout} {u : Store Key8 ℕ} {d : Disk} (marks : MarksRest told l u d) (t : told) (is : IsTrue l.marked) (side : Side) → StandsSettled (d (blob_of l.metadata side))
+copy_rest {u = u} {d = d} marks t is side = subst (λ (x : List ℕ). StandsSettled (d (blob_of x side))) (marks.here is) (go side)
   where
-    go : (x : Side) → IsAtRest (d (blob_of u.partition x))
+    go : (x : Side) → StandsSettled (d (blob_of u.partition x))
     go Left = (marks.stands t is).left
     go Right = (marks.stands t is).right
 

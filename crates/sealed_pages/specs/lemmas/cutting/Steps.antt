@@ -1,12 +1,12 @@
 -- The three steps of a cut inside a page, one after the other.
 use Rattle.std.proofs.Common.{◌≡◌, ◌≢◌, ℕ, not, Bool, true, false, List, sym, ◌∙◌, ap}
 use Rattle.blob_device.specs.Disk.{Blob, settled_at}
-use Rattle.sealed_pages.specs.Cutting.{IsAtRest}
+use Rattle.sealed_pages.specs.Cutting.{StandsSettled}
 
 pub other_not : (b : Bool) → b ≢ not b
 other_not true e = cc e
 other_not false e = cc e
 
--- what was settled at a content is at rest
-pub settled_rest : (b : Blob) (c : List ℕ) → b ≡ settled_at c → IsAtRest b
+-- what was settled at a content is settled
+pub settled_rest : (b : Blob) (c : List ℕ) → b ≡ settled_at c → StandsSettled b
 settled_rest b c is = is ∙ ap settled_at (sym (ap (λ (x : Blob). x.content) is))

@@ -4,7 +4,7 @@ use Rattle.std.proofs.lemmas.Bool.{cases_Bool}
 use Rattle.blob_device.specs.Disk.{Blob}
 use Rattle.blob_device.specs.Counts.{Rose}
 use Rattle.sealed_pages.specs.Buffer.{Buffer, size_of, flushed_of, Holds}
-use Rattle.sealed_pages.specs.Cutting.{IsAtRest, Settles}
+use Rattle.sealed_pages.specs.Cutting.{StandsSettled, Settles}
 use Rattle.sealed_pages.specs.Flushing.{Covers}
 use Rattle.sealed_pages.specs.SealedPrefix.{pages_in, sealed_prefix, adopted_size}
 use Rattle.sealed_pages.specs.Slots.{page_length}
@@ -14,7 +14,7 @@ use Rattle.sealed_pages.specs.lemmas.slots.SealedBytes.{sound_to}
 use Rattle.sealed_pages.specs.lemmas.slots.Steps.{below_sound, quiet_below, tidy_sound}
 
 -- once all is settled, the bytes are the sealed prefix of what has settled
-pub holds_rest : (seal : List ℕ → ℕ) (u : Buffer) (all : List ℕ) (b : Blob) → u.from < u.page_size → Holds seal u all b → u.settled ≡ size_of u → u.from ≡ length u.tip → IsAtRest b
+pub holds_rest : (seal : List ℕ → ℕ) (u : Buffer) (all : List ℕ) (b : Blob) → u.from < u.page_size → Holds seal u all b → u.settled ≡ size_of u → u.from ≡ length u.tip → StandsSettled b
 holds_rest seal u all b begun holds settled full = elim (cases_Bool (u.behind || u.torn)) [
   | inl left ↦ (holds.state.adopted left).0.is
   | inr clean ↦ (holds.state.ready clean).rest (omega (arith, settled, full))

@@ -73,8 +73,8 @@ outside_none at n i none = elim (cases_lt i at) [
 ]
 
 -- where nothing is unsettled and nothing is loose, no settled byte was written since
-pub whole_at_rest : (u : WriteBlob) (b : Blob) → is_unsettled u ≡ false → b.loose ≡ [] → IsWhole u b
-whole_at_rest u b idle none i lt = (
+pub whole_settled : (u : WriteBlob) (b : Blob) → is_unsettled u ≡ false → b.loose ≡ [] → IsWhole u b
+whole_settled u b idle none i lt = (
   (outside_none u.at (length u.pending.items) i (idle_parts u.dirty (length u.pending.items) u.at u.end idle).1.0, tt),
   subst (λ (l : List (ℕ × ℕ)). Outside l i) (sym none) tt,
 )

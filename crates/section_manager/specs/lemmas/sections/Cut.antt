@@ -10,7 +10,7 @@ use Rattle.blob_device.specs.Disk.{Key, Blob}
 use Rattle.blob_device.specs.Opened.{OpenedList}
 use Rattle.blob_device.specs.Timeline.{Timeline, disk, Always, Each}
 use Rattle.blob_device.specs.lemmas.Moments.{always_weaker}
-use Rattle.sealed_pages.specs.Cutting.{IsAtRest}
+use Rattle.sealed_pages.specs.Cutting.{StandsSettled}
 use Rattle.section_manager.specs.declared.buffer.SectionBuffer as buffer
 use Rattle.section_manager.specs.Entries.{OnlyOwnEntry, StartsNoRead}
 use Rattle.section_manager.specs.Leaving.{Leaves, AllMoments}
@@ -85,7 +85,7 @@ module _ {F B : Type 0} (g : buffer.Ghosts B) (gives : F → Setting) (told : Ty
     bytes = λ t. ap (λ (b : Blob). g.bytes v b.content) (is t) ∙ did.bytes t ∙ sym (ap (λ (b : Blob). take n (g.bytes u b.content)) (was t));
     settled = did.settled;
     done = did.done;
-    rests = λ t lt. subst IsAtRest (sym (is t)) (did.rests t lt);
+    rests = λ t lt. subst StandsSettled (sym (is t)) (did.rests t lt);
     whole = λ t whole. subst (g.IsWhole v) (sym (is t)) (did.whole t (subst (g.IsWhole u) (was t) whole));
     mended = λ t lt. subst (g.IsWhole v) (sym (is t)) (did.mended t lt);
     again = λ t lt. subst (λ (b : Blob). g.holds (g.setting v) b.content ≡ g.bytes v b.content) (sym (is t)) (did.again t lt);

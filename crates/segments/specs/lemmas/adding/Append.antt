@@ -10,7 +10,7 @@ use Rattle.blob_device.specs.Timeline.{Timeline, disk, Always, OnlyAt}
 use Rattle.blob_device.specs.lemmas.Moments.{always_now, always_then, only_start}
 use Rattle.sealed_pages.specs.Buffer.{Buffer, extent, size_of, bytes_of, FlushesNothing, IsSealed}
 use Rattle.sealed_pages.specs.ChanceSeal.{Sealing}
-use Rattle.sealed_pages.specs.Cutting.{IsAtRest}
+use Rattle.sealed_pages.specs.Cutting.{StandsSettled}
 use Rattle.sealed_pages.specs.declared.page_blob.PageBlob.{PageBlob}
 use Rattle.sealed_pages.specs.SealedPrefix.{sealed_prefix, adopted_size}
 use Rattle.sealed_pages.specs.Unrecovered.{HasPrefix, KeepsPrefix, IsAdopted, IsUnrecovered}
@@ -169,12 +169,12 @@ module _ {F S : Type 0} {gs : _} (seal : List ℕ → ℕ) (size : ℕ) (told : 
 
     module _ (n : ℕ) (c : Timeline) (v : PageBlob S gs) (appends : Added n c v) where
       -- all has settled only where nothing was added
-      rested : told → v.settled ≡ size_of (shown v) → IsAtRest (disk c (key_of j.sections s))
+      rested : told → v.settled ≡ size_of (shown v) → StandsSettled (disk c (key_of j.sections s))
       rested t all =
           let was_all : u.settled ≡ size_of (shown u) = omega (arith, all, appends.long, appends.settled, u.order, u.fit.within) in
           let none : n ≡ 0 = omega (arith, all, appends.long, appends.settled, u.order, u.fit.within) in
           let flushed : u.from ≡ length u.tip.items = all_flushed (shown u) u.fit.within u.order was_all in
-          subst (λ (d : Disk). IsAtRest (d (key_of j.sections s))) (sym (appends.idle (inr (omega (arith, none, flushed)))))
+          subst (λ (d : Disk). StandsSettled (d (key_of j.sections s))) (sym (appends.idle (inr (omega (arith, none, flushed)))))
           ((pages.stands u (disk b (key_of j.sections s)) (takes.stands t)).rest was_all)
 
       -- what the append made of the buffer stands over the blob

@@ -7,7 +7,7 @@ use Rattle.blob_device.specs.lemmas.Moments.{always_now}
 use Rattle.sealed_pages.specs.declared.page_blob.PageBlob.{PageBlob}
 use Rattle.sealed_pages.specs.Shown.{shown}
 use Rattle.sealed_pages.specs.Buffer.{key_of, size_of, flushed_of, IsBacked, IsSealed}
-use Rattle.sealed_pages.specs.Cutting.{IsAtRest}
+use Rattle.sealed_pages.specs.Cutting.{StandsSettled}
 use Rattle.sealed_pages.specs.Readers.{Reader}
 use Rattle.sealed_pages.specs.Flushing.{Alone}
 use Rattle.sealed_pages.specs.Unrecovered.{IsUnrecovered}
@@ -42,7 +42,7 @@ module _ {S : Type 0} {gs : _} (bu u : PageBlob S gs) (is : bu ≡ u) (K : Key) 
     ];
     rest = λ all. (let was_all : bu.settled ≡ size_of (shown bu) = sym settled ∙ all ∙ size in
         let full : bu.from ≡ length bu.tip.items = all_flushed (shown bu) bu.fit.within bu.order was_all in
-        subst (λ (t : Timeline). IsAtRest (disk t K)) (sym (idle (omega (arith, full)))) (stands.rest was_all));
+        subst (λ (t : Timeline). StandsSettled (disk t K)) (sym (idle (omega (arith, full)))) (stands.rest was_all));
   }
 
   -- the same of what a flush gave, and of the reader over it

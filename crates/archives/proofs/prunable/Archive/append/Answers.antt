@@ -41,7 +41,7 @@ use Rattle.archives.proofs.put.Rows.{grows, section_low, still_none}
 use Rattle.archives.proofs.put.Sound.{Sounds, grown_sound, grown_state}
 use Rattle.archives.proofs.put.Sync.{same_filing, section_small}
 use Rattle.archives.proofs.PuttingLemmas.{pair_above, section_from}
-use Rattle.archives.proofs.put.Stands.{IsFree, at_rest, full_or_room, put_moments, wanted}
+use Rattle.archives.proofs.put.Stands.{IsFree, stands_settled, full_or_room, put_moments, wanted}
 use Rattle.archives.proofs.prunable.Archive.append.Given as given
 use Rattle.archives.proofs.prunable.Archive.append.Goals as goal
 use Rattle.archives.proofs.prunable.Archive.append.Goals.{After-append}
@@ -138,7 +138,7 @@ moments_of g c times free t sound =
     ++ (if s == c.section_of-section.result then record { stored = index_record r.index (g.K.Key.key_bytes r.key) offset size; value = bytes } ∷ [] else [])) (synced_length (shown c.args.self).pair) (λ _. ⊥) Blobs before now)
     c.new-record.ensures (c.append.ensures.moments t sound.pair) in
     put_moments (shown c.args.self) c.args.index c.section_of-section.result c.section_of-section.ensures (g.K.Key.key_bytes c.args.key) bytes size times g.D.Device.time c.args.dev.now c.append.new.dev
-    (at_rest (shown c.args.self) (disk before) (omega arith) refl refl refl refl (λ s v held. λ i. (c.requires.over.pair.index.over.opened_list.setting s v held i).page_size) c.requires.over t sound)
+    (stands_settled (shown c.args.self) (disk before) (omega arith) refl refl refl refl (λ s v held. λ i. (c.requires.over.pair.index.over.opened_list.setting s v held i).page_size) c.requires.over t sound)
     c.requires.over t sound (asked_of g c times free sound) ((room_shown (row_of g.K.Key.key_bytes) (tables.rows_of c.args.self.tables) c.args.self.limits.sections c.args.self.limits.per_section c.section_of-section.result).0 (c.has_room.ensures.0 c.if-not-has_room.false)) c.args.self.has_records c.section_of-section.type_inv
     (λ lt. c.append.ensures.refused (inl (c.append.ensures.too_large.1 lt)))
     (λ le full. c.append.ensures.refused (inr (inr (inl t, (c.append.ensures.full (inl t)).1 (le, pair_above (shown c.args.self) c.requires.over c.args.index c.section_of-section.result c.section_of-section.ensures c.requires.floor, inr full)))))
@@ -186,7 +186,7 @@ push-requires g c = record {
 pub returns-then-not-has_room : goal.returns-then-not-has_room
 returns-then-not-has_room g c times free =
     put_over_limit _ g.D.Device times c.args.self c.args.index (g.K.Key.key_bytes c.args.key) (g.V.Codec.spelling c.args.value.now) (section_small _ c.args.index c.ranges.index.fits) free c.args.dev.now
-    (λ t sound. at_rest (shown c.args.self) (disk (g.D.Device.time c.args.dev.now)) (omega arith) refl refl refl refl (λ s v held. λ i. (c.requires.over.pair.index.over.opened_list.setting s v held i).page_size) c.requires.over t sound)
+    (λ t sound. stands_settled (shown c.args.self) (disk (g.D.Device.time c.args.dev.now)) (omega arith) refl refl refl refl (λ s v held. λ i. (c.requires.over.pair.index.over.opened_list.setting s v held i).page_size) c.requires.over t sound)
     (λ allowed.
     let a = shown c.args.self in
     let room = c.has_room.ensures.1 ((room_shown (row_of g.K.Key.key_bytes) (tables.rows_of c.args.self.tables) a.most_sections a.most_records c.section_of-section.result).1 (subst (HasRoom a.most_sections a.most_records a.rows) (sym c.section_of-section.ensures) allowed)) in
@@ -196,7 +196,7 @@ pub returns-in_err-held : goal.returns-in_err-held
 returns-in_err-held g c times free =
     put_as _ g.D.Device times c.args.self c.args.index (g.K.Key.key_bytes c.args.key) (g.V.Codec.spelling c.args.value.now) _ (Err Mem) _ _ (err_of _ Mem (subst (λ (x : Error). IsErrAnd c.from_residual.result (λ y. y ≡ x)) c.in_err-held.ensures c.from_residual.ensures.1))
     (put_no_memory _ g.D.Device times c.args.self c.args.index (g.K.Key.key_bytes c.args.key) (g.V.Codec.spelling c.args.value.now) (section_small _ c.args.index c.ranges.index.fits) free c.args.dev.now
-    (λ t sound. at_rest (shown c.args.self) (disk (g.D.Device.time c.args.dev.now)) (omega arith) refl refl refl refl (λ s v held. λ i. (c.requires.over.pair.index.over.opened_list.setting s v held i).page_size) c.requires.over t sound)
+    (λ t sound. stands_settled (shown c.args.self) (disk (g.D.Device.time c.args.dev.now)) (omega arith) refl refl refl refl (λ s v held. λ i. (c.requires.over.pair.index.over.opened_list.setting s v held i).page_size) c.requires.over t sound)
     (row_allowed g.K.Key.key_bytes c.args.self.tables c.args.self.limits.sections c.args.self.limits.per_section c.args.self.items_per_section c.args.index c.section_of-section.result c.section_of-section.ensures (c.has_room.ensures.0 c.if-not-has_room.false)))
 
 pub returns-in_err-pair : goal.returns-in_err-pair
@@ -260,7 +260,7 @@ returns g c times free =
     (λ w accepts. subst (g.V.Codec.accepted w) (sym says.codec_config) accepts)
     sounder
     (λ t sound. grown_state a q refusal rows (AreTables g.K.Key.key_bytes g.T.Word.PartialEq.eq (g.T.Translator.word_of c.args.self.translator) c.push.new.self) (set_of c.in_ok-held.held.indices) written c.args.index sec here key v n d e c.requires.over t adds times (asked_of g (goal.at.returns g c).After-append times free sound (short g c)) sound (sounds_of g c t sound))
-    (λ t sound. at_rest _ e (omega arith) refl refl refl refl (λ s u held. λ i. (says.over.index.over.opened_list.setting s u held i).page_size) over t sound)
+    (λ t sound. stands_settled _ e (omega arith) refl refl refl refl (λ s u held. λ i. (says.over.index.over.opened_list.setting s u held i).page_size) over t sound)
     (record {
       filing = filing;
       alike = refl;

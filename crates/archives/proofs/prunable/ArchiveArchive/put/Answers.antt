@@ -3,7 +3,7 @@ use Rattle.blob_device.specs.Timeline.{disk}
 use Rattle.archives.specs.Putting.{Once, is_skipped}
 use Rattle.archives.specs.Shown.{shown}
 use Rattle.archives.proofs.put.Sync.{section_small}
-use Rattle.archives.proofs.put.Stands.{at_rest}
+use Rattle.archives.proofs.put.Stands.{stands_settled}
 use Rattle.archives.proofs.PutsLemmas.{put_nothing}
 use Rattle.archives.proofs.PuttingLemmas.{skips_low, skips_not, skips_taken}
 use Rattle.archives.proofs.prunable.ArchiveArchive.put.Goals as goal
@@ -19,7 +19,7 @@ returns-then-index-self g c =
     ] in
     put_nothing _ g.D.Device Once c.args.self c.args.index (g.K.Key.key_bytes c.args.key) (g.V.Codec.spelling c.args.value.now) (section_small _ c.args.index c.ranges.index.fits) skips
     c.args.dev.now c.requires.over
-    (λ t sound. at_rest a (disk (g.D.Device.time c.args.dev.now)) (omega arith) refl refl refl refl (λ s v held. λ i. (c.requires.over.pair.index.over.opened_list.setting s v held i).page_size) c.requires.over t sound)
+    (λ t sound. stands_settled a (disk (g.D.Device.time c.args.dev.now)) (omega arith) refl refl refl refl (λ s v held. λ i. (c.requires.over.pair.index.over.opened_list.setting s v held i).page_size) c.requires.over t sound)
 
 pub append-requires-clause-floor : goal.append-requires-clause-floor
 append-requires-clause-floor g c = omega (arith, c.if-index-self.false)

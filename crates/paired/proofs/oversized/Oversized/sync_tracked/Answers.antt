@@ -154,7 +154,7 @@ returns g c =
           (λ d only k is. only k (λ copy. copy_no_blob p.layout named c.requires.over.apart k (subst (λ l. IsCopy l k) layouts copy) is)) (moves.alone t) in
           record {
             sections = λ is. absurd (moves.fault is);
-            at_rest = λ stops. rests_still p named (disk b) (disk e) (λ s held. c.requires.over.index.over.opened_list.number s (inl held)) (λ s held. c.requires.over.values.over.opened_list.number s (inl held))
+            stands_settled = λ stops. rests_still p named (disk b) (disk e) (λ s held. c.requires.over.index.over.opened_list.number s (inl held)) (λ s held. c.requires.over.values.over.opened_list.number s (inl held))
                 (always_now b e (λ d. (k : Key) → IsBlobOf p.layout named k → d k ≡ disk b k) blobs) (says.rests t);
             leaves = λ stops sound synced after.
                 let more : (s : ℕ) → synced s ≤ synced_length q s = (λ s. elim (decides s) [

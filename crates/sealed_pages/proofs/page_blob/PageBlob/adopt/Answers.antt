@@ -1,4 +1,4 @@
-use Rattle.sealed_pages.specs.Cutting.{IsAtRest}
+use Rattle.sealed_pages.specs.Cutting.{StandsSettled}
 use Rattle.sealed_pages.specs.Starts.{StartsOver}
 use Rattle.std.proofs.Common.{rules, ◌≡◌, ◌+◌, ◌*◌, ◌≤◌, ◌∙◌, ℕ, List, length, get_or, take, string_bytes, ap, sym, subst, arith, length-take, inl, inr, refl, ◌<◌}
 use Rattle.blob_device.specs.Disk.{Key, Blob, settled_at}
@@ -115,7 +115,7 @@ returns g c =
     } in
     let all : List ℕ = bytes_of u (disk (g.D.Device.time c.args.dev.now) (c.args.partition.now, c.args.name.now)).content in
     let fits : c.start_of-start.result.first * c.args.pages.page_size + c.start_of-start.result.from ≤ length (bytes_of u (disk (g.D.Device.time c.args.dev.now) (c.args.partition.now, c.args.name.now)).content) = omega (arith, bytes_length u (disk (g.D.Device.time c.args.dev.now) (c.args.partition.now, c.args.name.now)).content, long g (goal.at.returns g c).In_ok-tip) in
-    let sealed_ : g.D.Device.Tells → IsAtRest (disk (g.D.Device.time c.args.dev.now) (c.args.partition.now, c.args.name.now)) → length (sealed_prefix g.S.Seal.seal_of c.args.pages.page_size (disk (g.D.Device.time c.args.dev.now) (c.args.partition.now, c.args.name.now)).content) ≡ adopted_size g.S.Seal.seal_of c.args.pages.page_size (disk (g.D.Device.time c.args.dev.now) (c.args.partition.now, c.args.name.now)).content → IsSealed g.S.Seal.seal_of u (disk (g.D.Device.time c.args.dev.now) (c.args.partition.now, c.args.name.now))
+    let sealed_ : g.D.Device.Tells → StandsSettled (disk (g.D.Device.time c.args.dev.now) (c.args.partition.now, c.args.name.now)) → length (sealed_prefix g.S.Seal.seal_of c.args.pages.page_size (disk (g.D.Device.time c.args.dev.now) (c.args.partition.now, c.args.name.now)).content) ≡ adopted_size g.S.Seal.seal_of c.args.pages.page_size (disk (g.D.Device.time c.args.dev.now) (c.args.partition.now, c.args.name.now)).content → IsSealed g.S.Seal.seal_of u (disk (g.D.Device.time c.args.dev.now) (c.args.partition.now, c.args.name.now))
     = λ t is whole.
     let adopted = adopted_is g.S.Seal.seal_of c.args.pages.page_size (disk (g.D.Device.time c.args.dev.now) (c.args.partition.now, c.args.name.now)).content c.in_ok-found.found c.as_slice-page.result.now c.start_of-start.result.first c.start_of-start.result.from (is_b c.start_of-start.result.newest) c.start_of-start.result.behind c.start_of-start.result.torn pos all c.start_of-start.ensures.begun (finds_ t) (over_ t) whole fits (flushed_ t) in
     let state = adopted_state g.S.Seal.seal_of c.args.pages.page_size pos all c.start_of-start.result.first c.start_of-start.result.from (is_b c.start_of-start.result.newest) c.start_of-start.result.behind c.start_of-start.result.torn c.start_of-start.ensures.begun (settled_at (disk (g.D.Device.time c.args.dev.now) (c.args.partition.now, c.args.name.now)).content) adopted (c.start_of-start.result.first * c.from.result + c.start_of-start.result.from) settled in
@@ -127,7 +127,7 @@ returns g c =
       };
       backed = backed_ t;
     } in
-    let unrecovered_ : g.D.Device.Tells → IsAtRest (disk (g.D.Device.time c.args.dev.now) (c.args.partition.now, c.args.name.now)) → length (sealed_prefix g.S.Seal.seal_of c.args.pages.page_size (disk (g.D.Device.time c.args.dev.now) (c.args.partition.now, c.args.name.now)).content) < adopted_size g.S.Seal.seal_of c.args.pages.page_size (disk (g.D.Device.time c.args.dev.now) (c.args.partition.now, c.args.name.now)).content → IsUnrecovered g.S.Seal.seal_of u (disk (g.D.Device.time c.args.dev.now) (c.args.partition.now, c.args.name.now))
+    let unrecovered_ : g.D.Device.Tells → StandsSettled (disk (g.D.Device.time c.args.dev.now) (c.args.partition.now, c.args.name.now)) → length (sealed_prefix g.S.Seal.seal_of c.args.pages.page_size (disk (g.D.Device.time c.args.dev.now) (c.args.partition.now, c.args.name.now)).content) < adopted_size g.S.Seal.seal_of c.args.pages.page_size (disk (g.D.Device.time c.args.dev.now) (c.args.partition.now, c.args.name.now)).content → IsUnrecovered g.S.Seal.seal_of u (disk (g.D.Device.time c.args.dev.now) (c.args.partition.now, c.args.name.now))
     = λ t rest less. subst (IsUnrecovered g.S.Seal.seal_of u) (sym rest) (adopted_unrecovered g.S.Seal.seal_of u (disk (g.D.Device.time c.args.dev.now) (c.args.partition.now, c.args.name.now)).content c.in_ok-found.found c.as_slice-page.result.now pos (finds_ t) (over_ t) (omega (arith, place g (goal.at.returns g c).After-from)) (backed_ t) less) in
     record {
       size = λ t. omega (arith, long g (goal.at.returns g c).In_ok-tip, size_is g.S.Seal.seal_of c.args.pages.page_size (disk (g.D.Device.time c.args.dev.now) (c.args.partition.now, c.args.name.now)).content c.in_ok-found.found c.as_slice-page.result.now c.start_of-start.result.first c.start_of-start.result.from (is_b c.start_of-start.result.newest) c.start_of-start.result.behind c.start_of-start.result.torn (finds_ t) (over_ t));
