@@ -2,6 +2,10 @@ pub mod tracking
 pub mod FailLemmas
 pub mod FrameLemmas
 pub mod GlobLemmas
+pub mod GlobRemoves
+pub mod GlobSyncs
+pub mod GlobCuts
+pub mod GlobAppends
 pub mod StepLemmas
 pub mod AppendLemmas
 pub mod CallLemmas

@@ -1,3 +1,9 @@
 pub mod Sections
 pub mod Lasting
 pub mod Reading
+pub mod Shown
+pub mod Removes
+pub mod Syncs
+pub mod Cuts
+pub mod Appends
+pub mod Gets
