@@ -5,7 +5,6 @@ pub mod GlobLemmas
 pub mod GlobRemoves
 pub mod GlobSyncs
 pub mod GlobCuts
-pub mod GlobAppends
 pub mod StepLemmas
 pub mod AppendLemmas
 pub mod CallLemmas

@@ -14,7 +14,6 @@ pub mod Openings
 pub mod Pair
 pub mod PairFaults
 pub mod PairPrunes
-pub mod PairReads
 pub mod PairRefusing
 pub mod PairShown
 pub mod PairSync

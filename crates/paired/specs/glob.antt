@@ -5,5 +5,3 @@ pub mod Shown
 pub mod Removes
 pub mod Syncs
 pub mod Cuts
-pub mod Appends
-pub mod Gets

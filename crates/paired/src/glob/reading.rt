@@ -81,8 +81,7 @@ fn buffer_of(manager: &Manager<WriteFactory>, section: u64) -> Result<&WriteBlob
 }
 
 impl<V: Codec, S: Seal> Glob<V, S> {
-    ghost use Rattle.paired.specs.glob.Shown.{IsGlobOn};
-    ghost use Rattle.paired.specs.glob.Gets.{Gets};
+    ghost use Rattle.paired.specs.glob.Sections.{IsGlob, section_bytes, IsPendingRange};
 
     /// The value of the frame of this size at a place of the section.
     ///
@@ -96,10 +95,36 @@ impl<V: Codec, S: Seal> Glob<V, S> {
         offset: u64,
         size: u32,
     ) -> Result<V, Error>
-        requires { IsGlobOn D.Device (shown self.now.manager) dev.old }
-        ensures { Gets D.Device S.seal_of (shown self.now.manager) dev.old dev.new section offset size
-            V.spelling (λ v. V.accepted v self.now.codec_config)
-            (λ spelled. V.refusal spelled self.now.codec_config) result }
+        requires { IsGlob ⟦<WriteBlob as SectionBuffer>⟧ ⟦<WriteFactory as BufferFactory>⟧.gives D.Tells (shown self.now.manager) (D.opened dev.old) (disk (D.time dev.old)) }
+        ensures value { D.Tells → IfOk result (λ v. HasFrame S.seal_of (section_bytes (shown self.now.manager) (disk (D.time dev.old)) section) offset size (V.spelling v)) }
+        ensures accepted { IfOk result (λ v. V.accepted v self.now.codec_config) }
+        // Where the frame of an accepted value stands, that value is the answer, if the device does not fail and memory lasts.
+        ensures gives { D.Tells → (v : V) → V.accepted v self.now.codec_config
+            → HasFrame S.seal_of (section_bytes (shown self.now.manager) (disk (D.time dev.old)) section) offset size (V.spelling v)
+            → (result ≡ Ok v) ⊎ HasFailed result (D.faults dev.old) (D.faults dev.new) }
+        ensures inside { OnOk result (IsSomeAnd ((shown self.now.manager).held section) (λ u. IsInside u offset size)) }
+        ensures guard { IsPruned result (shown self.now.manager).floor ↔ (section < (shown self.now.manager).floor) }
+        ensures absent { IsAbsent result section ↔ (((shown self.now.manager).floor ≤ section) × ((shown self.now.manager).held section ≡ None)) }
+        ensures overflow { IsOverflow result ↔ (IsHeld (shown self.now.manager) section × (2 ^ 64 ≤ offset + size)) }
+        // Such a range passes the end of the section too.
+        ensures beyond { IsOverflow result → IsSomeAnd ((shown self.now.manager).held section) (λ u. count_of u < offset + size) }
+        ensures short { IsShort result ↔ IsSomeAnd ((shown self.now.manager).held section) (λ u. (offset + size < 2 ^ 64) × ((count_of u < offset + size) ⊎ (size < 4))) }
+        ensures mismatch { D.Tells → (stored computed : ℕ) → IsErrOf result (Error.ChecksumMismatch stored computed)
+            → IsBroken S.seal_of (section_bytes (shown self.now.manager) (disk (D.time dev.old)) section) offset size stored computed }
+        ensures mismatch_any { (stored computed : ℕ) → IsErrOf result (Error.ChecksumMismatch stored computed) → Differ S.seal_of size stored computed }
+        ensures mismatch_inside { IsMismatch result → IsSomeAnd ((shown self.now.manager).held section) (λ u. IsInside u offset size) }
+        ensures refused { D.Tells → (e : _) → IsErrOf result (Error.Codec e)
+            → ((spelled : List ℕ) × HasFrame S.seal_of (section_bytes (shown self.now.manager) (disk (D.time dev.old)) section) offset size spelled × (V.refusal spelled self.now.codec_config ≡ Some e)) }
+        ensures refused_any { (e : _) → IsErrOf result (Error.Codec e) → (e ≢ codec.Mem) × ((spelled : List ℕ) × (length spelled + 4 ≡ size) × (V.refusal spelled self.now.codec_config ≡ Some e)) }
+        ensures refused_inside { IsRefused result → IsSomeAnd ((shown self.now.manager).held section) (λ u. IsInside u offset size) }
+        ensures over { IsGlob ⟦<WriteBlob as SectionBuffer>⟧ ⟦<WriteFactory as BufferFactory>⟧.gives D.Tells (shown self.now.manager) (D.opened dev.new) (disk (D.time dev.new)) }
+        ensures unchanged { D.Tells → Unchanged (D.time dev.old) (D.time dev.new) }
+        // A refusal that needs no read makes no call of the device, and neither does a frame that is not flushed.
+        ensures idle { (IsSomeAnd ((shown self.now.manager).held section) (λ u. IsInside u offset size) → ⊥) → dev.new ≡ dev.old }
+        ensures pending { IsPendingRange (shown self.now.manager) section offset size → dev.new ≡ dev.old }
+        ensures reads { ReadsAtMost 1 (key_of (shown self.now.manager) section) (D.opened dev.old) (D.opened dev.new) }
+        ensures faults { D.faults dev.old ≤ D.faults dev.new }
+        ensures cause { OnErr result (IsPruned result (shown self.now.manager).floor ⊎ (IsAbsent result section ⊎ (IsOverflow result ⊎ (IsShort result ⊎ (IsMismatch result ⊎ (IsRefused result ⊎ HasFailed result (D.faults dev.old) (D.faults dev.new))))))) }
     {
         let buffer = buffer_of(&self.manager, section)?;
         check_range(buffer, offset, size)?;

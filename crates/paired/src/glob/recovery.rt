@@ -88,7 +88,6 @@ impl<V: Codec, S: Seal> Recovery<V, S> {
     ghost use Rattle.section_manager.specs.managing.Managed.{shown};
     ghost use Rattle.paired.specs.glob.Sections.{IsGlob, section_bytes, section_size, HasSettled, IsAllSettled};
     ghost use Rattle.paired.specs.glob.Shown.{shown_recovery, IsGlobOn};
-    ghost use Rattle.paired.specs.glob.Gets.{Verifies};
     ghost use Rattle.paired.specs.glob.Cuts.{CutsBehind, CutsSection, CutsEach};
 
     /// Opens the sections of the partition up to this one. The later ones are not held, until a [`truncate`](Recovery::truncate), a
@@ -177,9 +176,19 @@ impl<V: Codec, S: Seal> Recovery<V, S> {
         offset: u64,
         size: u32,
     ) -> Result<bool, Error>
-        requires { IsGlobOn D.Device (shown self.now.manager) dev.old }
-        ensures { Verifies D.Device S.seal_of (shown self.now.manager) dev.old dev.new section offset
-            size result }
+        requires { IsGlob ⟦<WriteBlob as SectionBuffer>⟧ ⟦<WriteFactory as BufferFactory>⟧.gives D.Tells (shown self.now.manager) (D.opened dev.old) (disk (D.time dev.old)) }
+        ensures sealed { D.Tells → IfOk result (λ r. IsTrue r ↔ IsSealed S.seal_of (section_bytes (shown self.now.manager) (disk (D.time dev.old)) section) offset size) }
+        // It is as sound as the test of a record's value says.
+        ensures sound { D.Tells → IfOk result (λ r. IsTrue r ↔ IsTrue (is_sound S.seal_of (section_bytes (shown self.now.manager) (disk (D.time dev.old)) section) (offset, size))) }
+        // What is not inside is not sealed, and takes no call of the device.
+        ensures outside { (shown self.now.manager).floor ≤ section → (IsSomeAnd ((shown self.now.manager).held section) (λ u. IsInside u offset size) → ⊥) → result ≡ Ok false }
+        ensures idle { (IsSomeAnd ((shown self.now.manager).held section) (λ u. IsInside u offset size) → ⊥) → dev.new ≡ dev.old }
+        ensures over { IsGlob ⟦<WriteBlob as SectionBuffer>⟧ ⟦<WriteFactory as BufferFactory>⟧.gives D.Tells (shown self.now.manager) (D.opened dev.new) (disk (D.time dev.new)) }
+        ensures unchanged { D.Tells → Unchanged (D.time dev.old) (D.time dev.new) }
+        ensures reads { ReadsAtMost 1 (key_of (shown self.now.manager) section) (D.opened dev.old) (D.opened dev.new) }
+        ensures guard { IsPruned result (shown self.now.manager).floor ↔ (section < (shown self.now.manager).floor) }
+        ensures faults { D.faults dev.old ≤ D.faults dev.new }
+        ensures cause { OnErr result (IsPruned result (shown self.now.manager).floor ⊎ HasFailed result (D.faults dev.old) (D.faults dev.new)) }
     {
         let Some(buffer) = self.manager.get(section)? else {
             return Ok(false);
