@@ -12,7 +12,7 @@ use Rattle.section_manager.specs.Sections.{Sections}
 use Rattle.sealed_pages.specs.declared.write_blob.WriteBlob.{WriteBlob}
 use Rattle.segments.proofs.held.Passing.{no_error}
 use Rattle.paired.proofs.pair.Pruned.{pruned_as}
-use Rattle.paired.specs.glob.Cuts.{CutsBehind, CutsSection, CutsEach}
+use Rattle.paired.specs.glob.Cuts.{TruncatesGlob, CutsSection, CutsSections}
 use Rattle.paired.specs.glob.Shown.{Shown, IsGlobOn}
 use Rattle.paired.proofs.CallLemmas.{none_after, none_each, truncate_glob, earlier_bytes, cut_glob, cuts_glob, uncut_bytes, one_bytes, one_settled, one_all}
 use Rattle.paired.proofs.FailLemmas.{undamaged}
@@ -23,8 +23,8 @@ module _ {D C T : Type 0} (dev : device.Ghosts D) (g : Shown C) (old new : D) (s
   module _ (section n : ℕ) where
     -- the manager refused, or failed
     pub cut_behind_failed : (e : Error) (r : Result T Error) → r ≡ Err e → managing.CutsBehind buffer.ghosts factory.ghosts.gives dev g.sections section n old new (Err e)
-        → CutsBehind dev g old new see section n r
-    cut_behind_failed e r is says = subst (λ (x : Result T Error). CutsBehind dev g old new see section n x) (sym is) (record {
+        → TruncatesGlob dev g old new see section n r
+    cut_behind_failed e r is says = subst (λ (x : Result T Error). TruncatesGlob dev g old new see section n x) (sym is) (record {
       over = tt;
       later = tt;
       earlier = tt;
@@ -52,7 +52,7 @@ module _ {D C T : Type 0} (dev : device.Ghosts D) (g : Shown C) (old new : D) (s
 
     -- the later sections are removed, and this one is shortened
     pub cut_behind : section ≤ g.sections.ceiling → (v : T) → managing.CutsBehind buffer.ghosts factory.ghosts.gives dev g.sections section n old new (Ok (see v).sections)
-        → (see v).codec_config ≡ g.codec_config → CutsBehind dev g old new see section n (Ok v)
+        → (see v).codec_config ≡ g.codec_config → TruncatesGlob dev g old new see section n (Ok v)
     cut_behind below v says same =
         let m = g.sections in
         let k = (see v).sections in
@@ -140,8 +140,8 @@ module _ {D C T : Type 0} (dev : device.Ghosts D) (g : Shown C) (old new : D) (s
   module _ (size_of : ℕ → Option ℕ) where
     -- the manager refused, or failed
     pub cut_each_failed : (e : Error) (r : Result T Error) → r ≡ Err e → managing.CutsEach buffer.ghosts factory.ghosts.gives dev g.sections size_of old new (Err e)
-        → CutsEach dev g old new see size_of r
-    cut_each_failed e r is says = subst (λ (x : Result T Error). CutsEach dev g old new see size_of x) (sym is) (record {
+        → CutsSections dev g old new see size_of r
+    cut_each_failed e r is says = subst (λ (x : Result T Error). CutsSections dev g old new see size_of x) (sym is) (record {
       over = tt;
       bytes = λ t. tt;
       other_bytes = λ t. tt;
@@ -165,7 +165,7 @@ module _ {D C T : Type 0} (dev : device.Ghosts D) (g : Shown C) (old new : D) (s
 
     -- the sections are shortened
     pub each_cut : (v : T) → managing.CutsEach buffer.ghosts factory.ghosts.gives dev g.sections size_of old new (Ok (see v).sections)
-        → (see v).codec_config ≡ g.codec_config → CutsEach dev g old new see size_of (Ok v)
+        → (see v).codec_config ≡ g.codec_config → CutsSections dev g old new see size_of (Ok v)
     each_cut v says same =
         let m = g.sections in
         let k = (see v).sections in

@@ -13,7 +13,7 @@ use Rattle.section_manager.specs.Sections.{Sections}
 use Rattle.section_manager.specs.managing.Removing as managing
 use Rattle.segments.proofs.held.Passing.{failed_on, pruned_on, no_error}
 use Rattle.paired.proofs.pair.Pruned.{pruned_as}
-use Rattle.paired.specs.glob.Removes.{Prunes, RemovesSection}
+use Rattle.paired.specs.glob.Removes.{PrunesGlob, RemovesSection}
 use Rattle.paired.specs.glob.Shown.{Shown, IsGlobOn}
 use Rattle.paired.proofs.CallLemmas.{none_from, prune_glob, kept_bytes, pruned_gone}
 use Rattle.paired.proofs.GlobLemmas.{glob_one, other_bytes}
@@ -22,8 +22,8 @@ module _ {D C T : Type 0} (dev : device.Ghosts D) (g : Shown C) (old new : D) (s
   module _ (least : ℕ) where
     -- the manager failed
     pub prune_failed : (e : Error) (r : Result T Error) → r ≡ Err e → managing.Prunes buffer.ghosts factory.ghosts.gives dev g.sections least old new (Err e)
-        → Prunes dev g old new see least was r
-    prune_failed e r is says = subst (λ (x : Result T Error). Prunes dev g old new see least was x) (sym is) (record {
+        → PrunesGlob dev g old new see least was r
+    prune_failed e r is says = subst (λ (x : Result T Error). PrunesGlob dev g old new see least was x) (sym is) (record {
       over = tt;
       removed = tt;
       kept = tt;
@@ -46,7 +46,7 @@ module _ {D C T : Type 0} (dev : device.Ghosts D) (g : Shown C) (old new : D) (s
     -- the sections are removed
     pub pruned : IsGlobOn dev g.sections old → least < 2 ^ 64 → (v : T)
         → managing.Prunes buffer.ghosts factory.ghosts.gives dev g.sections least old new (Ok ((see v).sections, was v))
-        → (see v).codec_config ≡ g.codec_config → Prunes dev g old new see least was (Ok v)
+        → (see v).codec_config ≡ g.codec_config → PrunesGlob dev g old new see least was (Ok v)
     pruned over fits v says same =
         let m = g.sections in
         let n = (see v).sections in

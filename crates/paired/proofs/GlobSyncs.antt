@@ -13,15 +13,15 @@ use Rattle.section_manager.specs.managing.Settling.{Settles}
 use Rattle.segments.proofs.held.Passing.{pruned_on, no_error}
 use Rattle.paired.proofs.pair.Pruned.{pruned_as}
 use Rattle.paired.specs.glob.Shown.{Shown, IsGlobOn}
-use Rattle.paired.specs.glob.Syncs.{Syncs}
+use Rattle.paired.specs.glob.Syncs.{SyncsGlob}
 use Rattle.paired.proofs.CallLemmas.{sync_glob, sync_bytes, sync_settled, sync_all}
 use Rattle.paired.proofs.StepLemmas.{settling_moments, same_unopened, none_unsettled}
 
 module _ {D C T : Type 0} (dev : device.Ghosts D) (g : Shown C) (old new : D) (see : T → Shown C) (IsNamed : ℕ → Type 0) (IsBelow : Type 0) (over : IsGlobOn dev g.sections old) where
   -- the manager refused, or failed
   pub sync_failed : (e : Error) (r : Result T Error) → r ≡ Err e → Settles buffer.ghosts factory.ghosts.gives dev g.sections IsNamed IsBelow old new (Err e)
-      → Syncs dev g old new see IsNamed IsBelow r
-  sync_failed e r is says = subst (λ (x : Result T Error). Syncs dev g old new see IsNamed IsBelow x) (sym is) (record {
+      → SyncsGlob dev g old new see IsNamed IsBelow r
+  sync_failed e r is says = subst (λ (x : Result T Error). SyncsGlob dev g old new see IsNamed IsBelow x) (sym is) (record {
     over = tt;
     bytes = λ t. tt;
     settled = λ t. tt;
@@ -44,7 +44,7 @@ module _ {D C T : Type 0} (dev : device.Ghosts D) (g : Shown C) (old new : D) (s
 
   -- the sections have settled
   pub synced : ((s : ℕ) → IsNamed s ⊎ (IsNamed s → ⊥)) → (v : T) → Settles buffer.ghosts factory.ghosts.gives dev g.sections IsNamed IsBelow old new (Ok (see v).sections)
-      → (see v).codec_config ≡ g.codec_config → Syncs dev g old new see IsNamed IsBelow (Ok v)
+      → (see v).codec_config ≡ g.codec_config → SyncsGlob dev g old new see IsNamed IsBelow (Ok v)
   synced named_or_not v says same =
       let m = g.sections in
       let n = (see v).sections in

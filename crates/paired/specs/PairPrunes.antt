@@ -22,7 +22,7 @@ use Rattle.paired.specs.Kept.{IsSameLayout, IsMarked, marker_of}
 use Rattle.paired.specs.Pair.{Pair, IsSafeOn, IsSoundOn, list_of, synced_length}
 use Rattle.paired.specs.PairFaults.{AreDropped}
 use Rattle.paired.specs.PairRefusing.{HasLostMarkers}
-use Rattle.paired.specs.PairUse.{MayUse}
+use Rattle.paired.specs.PairUse.{IsPairOver}
 
 module _ {D S T C : Type 0} {gs : _} (pages : buffer.Ghosts (PageBlob S gs))
     (gives : AppendFactory S → Setting) (dev : device.Ghosts D)
@@ -55,7 +55,7 @@ module _ {D S T C : Type 0} {gs : _} (pages : buffer.Ghosts (PageBlob S gs))
     -- oldest section first, then their values.
     pub record PrunesPair (was : T → Bool) (result : Result T Error) : Type 0 where
       -- the pair may be used
-      pub over : IfOk result (λ r. MayUse pages gives dev (see r) new)
+      pub over : IfOk result (λ r. IsPairOver pages gives dev (see r) new)
       -- it is sound, if it was
       pub sound : dev.Tells → IsSoundOn p (disk early)
           → IfOk result (λ r. IsSoundOn (see r) (disk late))

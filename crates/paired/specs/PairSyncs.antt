@@ -22,7 +22,7 @@ use Rattle.paired.specs.Pair.{Pair, IsSafeOn, IsSoundOn, IsMoving, list_of, leng
 use Rattle.paired.specs.PairFaults.{AreAtRest, FaultsInOrder}
 use Rattle.paired.specs.PairRefusing.{HasLostMarkers}
 use Rattle.paired.specs.PairSync.{IsSyncOf, SyncKeeps}
-use Rattle.paired.specs.PairUse.{MayUse}
+use Rattle.paired.specs.PairUse.{IsPairOver}
 use Rattle.paired.specs.glob.Sections as glob
 
 module _ {D S T C : Type 0} {gs : _} (pages : buffer.Ghosts (PageBlob S gs))
@@ -52,7 +52,7 @@ module _ {D S T C : Type 0} {gs : _} (pages : buffer.Ghosts (PageBlob S gs))
     -- are not active are moved.
     pub record SyncsTracked (result : Result T Error) : Type 0 where
       -- the pair may be used
-      pub over : IfOk result (λ r. MayUse pages gives dev (see r) new)
+      pub over : IfOk result (λ r. IsPairOver pages gives dev (see r) new)
       -- it is sound, if it was,
       pub sound : dev.Tells → IsSoundOn p (disk early)
           → IfOk result (λ r. IsSoundOn (see r) (disk late))
@@ -100,7 +100,7 @@ module _ {D S T C : Type 0} {gs : _} (pages : buffer.Ghosts (PageBlob S gs))
     -- The named sections are settled, records first, then values. No marker moves.
     pub record SettlesPair (result : Result T Error) : Type 0 where
       -- the pair may be used
-      pub over : IfOk result (λ r. MayUse pages gives dev (see r) new)
+      pub over : IfOk result (λ r. IsPairOver pages gives dev (see r) new)
       -- it is sound, if it was,
       pub sound : dev.Tells → IsSoundOn p (disk early)
           → IfOk result (λ r. IsSoundOn (see r) (disk late))

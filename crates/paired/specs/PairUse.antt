@@ -11,6 +11,6 @@ use Rattle.paired.specs.Pair.{Pair, IsPair}
 
 module _ {D S : Type 0} {gs : _} (pages : section_buffer.Ghosts (PageBlob S gs))
     (gives : AppendFactory S → Setting) (dev : device.Ghosts D) where
-  abbrev pub MayUse : Pair (AppendFactory S) (PageBlob S gs) → D → Type 0
-  MayUse p d = IsPair pages gives buffer.ghosts factory.ghosts.gives dev.Tells p (dev.opened d)
+  abbrev pub IsPairOver : Pair (AppendFactory S) (PageBlob S gs) → D → Type 0
+  IsPairOver p d = IsPair pages gives buffer.ghosts factory.ghosts.gives dev.Tells p (dev.opened d)
       (disk (dev.time d))

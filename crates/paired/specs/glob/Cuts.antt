@@ -1,6 +1,6 @@
 -- What the calls promise that shorten sections of a glob under recovery.
 use Rattle.std.specs.Prelude.{◌≡◌, ◌≢◌, ◌↔◌, ◌⊎◌, ◌≤◌, ◌<◌, ◌-◌, ◌^◌, ℕ, take, Option, Some, None, Result, IfOk, OnOk, OnErr, IsSome, IsSomeAnd}
-use Rattle.blob_device.specs.Disk.{Key, Disk, nothing}
+use Rattle.blob_device.specs.Disk.{Key, nothing}
 use Rattle.blob_device.specs.Timeline.{Timeline, disk, Always, Each}
 use Rattle.blob_device.specs.declared.device.Device as device
 use Rattle.sealed_pages.specs.declared.write_blob.WriteBlob.{WriteBlob}
@@ -11,7 +11,7 @@ use Rattle.section_manager.specs.Entries.{OnlyOwnEntry, StartsNoRead}
 use Rattle.section_manager.specs.Leaving.{AllMoments}
 use Rattle.section_manager.specs.managing.Settling.{IsAnyBelow}
 use Rattle.section_manager.specs.Refusing.{HasFailed, IsPruned}
-use Rattle.section_manager.specs.Sections.{Sections, key_of, IsHeld, IsKnown, IsGone, IsSame, SamePlace, SameBounds, IsKeyOf, IsCut}
+use Rattle.section_manager.specs.Sections.{Sections, key_of, IsKnown, IsGone, IsSame, SamePlace, SameBounds, IsKeyOf, IsCut}
 use Rattle.section_manager.specs.unsealed.Buffer.{content_of}
 use Rattle.paired.specs.glob.Lasting.{Outlasts, settled_to, Cutting, Truncating}
 use Rattle.paired.specs.glob.Sections.{section_bytes, HasSettled, IsAllSettled, IsLonger}
@@ -32,7 +32,7 @@ module _ {D C : Type 0} (dev : device.Ghosts D) (g : Shown C) (old new : D) wher
   module _ {T : Type 0} (see : T → Shown C) where
     -- The later sections are removed, the newest first; then this one is shortened to n bytes, if it is
     -- held and longer.
-    pub record CutsBehind (section n : ℕ) (result : Result T Error) : Type 0 where
+    pub record TruncatesGlob (section n : ℕ) (result : Result T Error) : Type 0 where
       -- it is a glob,
       pub over : IfOk result (λ r. IsGlobOn dev (see r).sections new)
       -- which knows nothing of the later sections,
@@ -136,7 +136,7 @@ module _ {D C : Type 0} (dev : device.Ghosts D) (g : Shown C) (old new : D) wher
           ⊎ HasFailed result (dev.faults old) (dev.faults new))
 
     -- Each section that has a size is shortened to it, if it is held and longer.
-    pub record CutsEach (size_of : ℕ → Option ℕ) (result : Result T Error) : Type 0 where
+    pub record CutsSections (size_of : ℕ → Option ℕ) (result : Result T Error) : Type 0 where
       -- it is a glob,
       pub over : IfOk result (λ r. IsGlobOn dev (see r).sections new)
       -- in which each of them has its first bytes, so many,

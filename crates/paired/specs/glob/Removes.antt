@@ -1,7 +1,6 @@
 -- What the calls promise that remove sections of a glob.
-use Rattle.std.specs.Prelude.{◌≡◌, ◌≢◌, ◌↔◌, ◌⊎◌, ◌≤◌, ◌<◌, ◌^◌, ℕ, Bool, None, false, Result, IfOk, OnOk, OnErr, IsTrue}
-use Rattle.blob_device.specs.Disk.{Disk, nothing}
-use Rattle.blob_device.specs.Opened.{OpenedList}
+use Rattle.std.specs.Prelude.{◌≡◌, ◌≢◌, ◌↔◌, ◌⊎◌, ◌≤◌, ◌<◌, ℕ, Bool, None, false, Result, IfOk, OnOk, OnErr, IsTrue}
+use Rattle.blob_device.specs.Disk.{nothing}
 use Rattle.blob_device.specs.Timeline.{Timeline, disk, Always}
 use Rattle.blob_device.specs.declared.device.Device as device
 use Rattle.sealed_pages.specs.declared.write_blob.WriteBlob.{WriteBlob}
@@ -29,7 +28,7 @@ module _ {D C : Type 0} (dev : device.Ghosts D) (g : Shown C) (old new : D) wher
   module _ {T : Type 0} (see : T → Shown C) where
     -- The sections below a bound are removed, the oldest first. Only where there was one, the bound is
     -- the floor.
-    pub record Prunes (least : ℕ) (was : T → Bool) (result : Result T Error) : Type 0 where
+    pub record PrunesGlob (least : ℕ) (was : T → Bool) (result : Result T Error) : Type 0 where
       -- it is a glob,
       pub over : IfOk result (λ r. IsGlobOn dev (see r).sections new)
       -- which knows nothing of them,

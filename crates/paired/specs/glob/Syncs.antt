@@ -1,6 +1,6 @@
 -- What the calls promise that settle sections of a glob.
-use Rattle.std.specs.Prelude.{◌≡◌, ◌↔◌, ◌⊎◌, ◌≤◌, ◌<◌, ℕ, Some, None, Result, IfOk, OnErr, IsSomeAnd}
-use Rattle.blob_device.specs.Disk.{Key, Disk}
+use Rattle.std.specs.Prelude.{◌≡◌, ◌↔◌, ◌⊎◌, ◌≤◌, ℕ, Some, None, Result, IfOk, OnErr, IsSomeAnd}
+use Rattle.blob_device.specs.Disk.{Key}
 use Rattle.blob_device.specs.Timeline.{Timeline, disk, Always, Each}
 use Rattle.blob_device.specs.declared.device.Device as device
 use Rattle.sealed_pages.specs.declared.write_blob.WriteBlob.{WriteBlob}
@@ -28,7 +28,7 @@ module _ {D C : Type 0} (dev : device.Ghosts D) (g : Shown C) (old new : D) wher
 
   -- The named sections are settled. One that is not held is passed over. It is refused where
   -- `IsBelow` holds.
-  pub record Syncs {T : Type 0} (see : T → Shown C) (IsNamed : ℕ → Type 0) (IsBelow : Type 0)
+  pub record SyncsGlob {T : Type 0} (see : T → Shown C) (IsNamed : ℕ → Type 0) (IsBelow : Type 0)
       (result : Result T Error) : Type 0 where
     -- it is a glob,
     pub over : IfOk result (λ r. IsGlobOn dev (see r).sections new)

@@ -88,7 +88,7 @@ impl<V: Codec, S: Seal> Recovery<V, S> {
     ghost use Rattle.section_manager.specs.managing.Managed.{shown};
     ghost use Rattle.paired.specs.glob.Sections.{IsGlob, section_bytes, section_size, HasSettled, IsAllSettled};
     ghost use Rattle.paired.specs.glob.Shown.{shown_recovery, IsGlobOn};
-    ghost use Rattle.paired.specs.glob.Cuts.{CutsBehind, CutsSection, CutsEach};
+    ghost use Rattle.paired.specs.glob.Cuts.{TruncatesGlob, CutsSection, CutsSections};
 
     /// Opens the sections of the partition up to this one. The later ones are not held, until a [`truncate`](Recovery::truncate), a
     /// [`prune`](Glob::prune) or a [`destroy`](Glob::destroy) removes them.
@@ -205,7 +205,7 @@ impl<V: Codec, S: Seal> Recovery<V, S> {
     pub fn truncate<D: Device>(self, dev: &mut D, section: u64, size: u64) -> Result<Self, Error>
         requires over { IsGlobOn D.Device (shown self.manager) dev.old }
         requires ceiling { section ≤ (shown self.manager).ceiling }
-        ensures { CutsBehind D.Device (shown_recovery self) dev.old dev.new shown_recovery section size
+        ensures { TruncatesGlob D.Device (shown_recovery self) dev.old dev.new shown_recovery section size
             result }
     {
         let mut this = self;
@@ -239,7 +239,7 @@ impl<V: Codec, S: Seal> Recovery<V, S> {
         sizes: &BTreeMap<u64, u64>,
     ) -> Result<Self, Error>
         requires over { IsGlobOn D.Device (shown self.manager) dev.old }
-        ensures { CutsEach D.Device (shown_recovery self) dev.old dev.new shown_recovery
+        ensures { CutsSections D.Device (shown_recovery self) dev.old dev.new shown_recovery
             (get nat_cmp sizes.now) result }
     {
         let mut this = self;

@@ -8,12 +8,13 @@ impl<V: Codec, S: Seal> Glob<V, S> {
     ghost use Rattle.section_manager.specs.managing.Managed.{shown};
     ghost use Rattle.paired.specs.glob.Shown.{shown_glob, IsGlobOn};
     ghost use Rattle.section_manager.specs.managing.Removing.{Destroys};
-    ghost use Rattle.paired.specs.glob.Removes.{Prunes, RemovesSection};
+    ghost use Rattle.paired.specs.glob.Removes.{PrunesGlob, RemovesSection};
 
     /// Removes the sections below `min`, the oldest first, and says whether there was one; only then `min` is the floor.
     pub fn prune<D: Device>(self, dev: &mut D, min: u64) -> Result<(Self, bool), Error>
         requires over { IsGlobOn D.Device (shown self.manager) dev.old }
-        ensures { Prunes D.Device (shown_glob self) dev.old dev.new (λ r. shown_glob r.0) min (λ r. r.1) result }
+        ensures { PrunesGlob D.Device (shown_glob self) dev.old dev.new (λ r. shown_glob r.0) min
+            (λ r. r.1) result }
     {
         let Glob {
             alloc,

@@ -11,12 +11,12 @@ use value_codec::{Codec, Seal};
 impl<V: Codec, S: Seal> Glob<V, S> {
     ghost use Rattle.section_manager.specs.managing.Managed.{shown};
     ghost use Rattle.paired.specs.glob.Shown.{shown_glob, IsGlobOn};
-    ghost use Rattle.paired.specs.glob.Syncs.{Syncs};
+    ghost use Rattle.paired.specs.glob.Syncs.{SyncsGlob};
 
     /// Settles these sections. One that is not held is passed over. All are checked before one is synced.
     pub fn sync<D: Device>(self, dev: &mut D, sections: &[u64]) -> Result<Self, Error>
         requires over { IsGlobOn D.Device (shown self.manager) dev.old }
-        ensures { Syncs D.Device (shown_glob self) dev.old dev.new shown_glob (Contains sections.now)
+        ensures { SyncsGlob D.Device (shown_glob self) dev.old dev.new shown_glob (Contains sections.now)
             (IsAnyBelow (Contains sections.now) (shown self.manager).floor) result }
     {
         let mut this = self;
@@ -32,7 +32,7 @@ impl<V: Codec, S: Seal> Glob<V, S> {
         sections: &[u64],
     ) -> Result<(Self, Handle), Error>
         requires over { IsGlobOn D.Device (shown self.manager) dev.old }
-        ensures { Syncs D.Device (shown_glob self) dev.old dev.new (λ r. shown_glob r.0)
+        ensures { SyncsGlob D.Device (shown_glob self) dev.old dev.new (λ r. shown_glob r.0)
             (Contains sections.now)
             (IsAnyBelow (Contains sections.now) (shown self.manager).floor) result }
     {
@@ -44,7 +44,7 @@ impl<V: Codec, S: Seal> Glob<V, S> {
     /// Settles all sections.
     pub fn sync_all<D: Device>(self, dev: &mut D) -> Result<Self, Error>
         requires over { IsGlobOn D.Device (shown self.manager) dev.old }
-        ensures { Syncs D.Device (shown_glob self) dev.old dev.new shown_glob (λ s. ⊤) ⊥ result }
+        ensures { SyncsGlob D.Device (shown_glob self) dev.old dev.new shown_glob (λ s. ⊤) ⊥ result }
     {
         let mut this = self;
         // The buffers are all there is to settle: a glob notes nothing beside them.

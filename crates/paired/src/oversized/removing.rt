@@ -25,12 +25,12 @@ use value_codec::{Codec, Seal};
 impl<I: Record, V: Codec, S: Seal> Oversized<I, V, S> {
     ghost use Rattle.paired.specs.PairPrunes.{PrunesPair};
     ghost use Rattle.paired.specs.PairShown.{shown};
-    ghost use Rattle.paired.specs.PairUse.{MayUse};
+    ghost use Rattle.paired.specs.PairUse.{IsPairOver};
 
     /// Removes the sections below a bound: first their markers, durably, then their records, the oldest section first, then their values. It
     /// says whether a section was removed.
     pub fn prune<D: Device>(self, dev: &mut D, min: u64) -> Result<(Self, bool), Error>
-        requires over { MayUse ⟦<PageBlob<S> as SectionBuffer>⟧
+        requires over { IsPairOver ⟦<PageBlob<S> as SectionBuffer>⟧
             ⟦<AppendFactory<S> as BufferFactory>⟧.gives D.Device (shown I.place self) dev.old }
         ensures { PrunesPair ⟦<PageBlob<S> as SectionBuffer>⟧
             ⟦<AppendFactory<S> as BufferFactory>⟧.gives D.Device (shown I.place self)

@@ -71,11 +71,11 @@ pub(super) fn note_synced<I: Record, S: Seal>(
 impl<I: Record, V: Codec, S: Seal> Oversized<I, V, S> {
     ghost use Rattle.paired.specs.PairShown.{shown};
     ghost use Rattle.paired.specs.PairSyncs.{SettlesPair, SyncsTracked};
-    ghost use Rattle.paired.specs.PairUse.{MayUse};
+    ghost use Rattle.paired.specs.PairUse.{IsPairOver};
 
     /// Settles these sections, and leaves their markers to a later sync. One that is not held is passed over.
     pub fn sync<D: Device>(self, dev: &mut D, sections: &[u64]) -> Result<Self, Error>
-        requires over { MayUse ⟦<PageBlob<S> as SectionBuffer>⟧
+        requires over { IsPairOver ⟦<PageBlob<S> as SectionBuffer>⟧
             ⟦<AppendFactory<S> as BufferFactory>⟧.gives D.Device (shown I.place self) dev.old }
         ensures { SyncsTracked ⟦<PageBlob<S> as SectionBuffer>⟧
             ⟦<AppendFactory<S> as BufferFactory>⟧.gives D.Device (shown I.place self)
@@ -91,7 +91,7 @@ impl<I: Record, V: Codec, S: Seal> Oversized<I, V, S> {
         dev: &mut D,
         sections: &[u64],
     ) -> Result<(Self, Handle), Error>
-        requires over { MayUse ⟦<PageBlob<S> as SectionBuffer>⟧
+        requires over { IsPairOver ⟦<PageBlob<S> as SectionBuffer>⟧
             ⟦<AppendFactory<S> as BufferFactory>⟧.gives D.Device (shown I.place self) dev.old }
         ensures { SyncsTracked ⟦<PageBlob<S> as SectionBuffer>⟧
             ⟦<AppendFactory<S> as BufferFactory>⟧.gives D.Device (shown I.place self)
@@ -135,7 +135,7 @@ impl<I: Record, V: Codec, S: Seal> Oversized<I, V, S> {
 
     // Settles the records of these sections, then their values, and notes what was synced. No marker moves.
     fn settle<D: Device>(self, dev: &mut D, sections: &[u64]) -> Result<Self, Error>
-        requires over { MayUse ⟦<PageBlob<S> as SectionBuffer>⟧
+        requires over { IsPairOver ⟦<PageBlob<S> as SectionBuffer>⟧
             ⟦<AppendFactory<S> as BufferFactory>⟧.gives D.Device (shown I.place self) dev.old }
         ensures { SettlesPair ⟦<PageBlob<S> as SectionBuffer>⟧
             ⟦<AppendFactory<S> as BufferFactory>⟧.gives D.Device (shown I.place self)
@@ -200,7 +200,7 @@ impl<I: Record, V: Codec, S: Seal> Oversized<I, V, S> {
         sections: &[u64],
         active: &[u64],
     ) -> Result<Self, Error>
-        requires over { MayUse ⟦<PageBlob<S> as SectionBuffer>⟧
+        requires over { IsPairOver ⟦<PageBlob<S> as SectionBuffer>⟧
             ⟦<AppendFactory<S> as BufferFactory>⟧.gives D.Device (shown I.place self) dev.old }
         ensures { SyncsTracked ⟦<PageBlob<S> as SectionBuffer>⟧
             ⟦<AppendFactory<S> as BufferFactory>⟧.gives D.Device (shown I.place self)
@@ -219,7 +219,7 @@ impl<I: Record, V: Codec, S: Seal> Oversized<I, V, S> {
         sections: &[u64],
         active: &[u64],
     ) -> Result<(Self, Handle), Error>
-        requires over { MayUse ⟦<PageBlob<S> as SectionBuffer>⟧
+        requires over { IsPairOver ⟦<PageBlob<S> as SectionBuffer>⟧
             ⟦<AppendFactory<S> as BufferFactory>⟧.gives D.Device (shown I.place self) dev.old }
         ensures { SyncsTracked ⟦<PageBlob<S> as SectionBuffer>⟧
             ⟦<AppendFactory<S> as BufferFactory>⟧.gives D.Device (shown I.place self)
