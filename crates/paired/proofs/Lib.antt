@@ -1,6 +1,9 @@
 pub mod tracking
 pub mod FailLemmas
 pub mod GlobLemmas
+pub mod GlobRemoves
+pub mod GlobSyncs
+pub mod GlobCuts
 pub mod StepLemmas
 pub mod AppendLemmas
 pub mod CallLemmas

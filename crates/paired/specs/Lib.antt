@@ -13,9 +13,12 @@ pub mod OpeningRefusing
 pub mod Openings
 pub mod Pair
 pub mod PairFaults
+pub mod PairPrunes
 pub mod PairRefusing
 pub mod PairShown
 pub mod PairSync
+pub mod PairSyncs
+pub mod PairUse
 pub mod Places
 pub mod Reconciling
 pub mod Records

@@ -1,3 +1,7 @@
 pub mod Sections
 pub mod Lasting
 pub mod Reading
+pub mod Shown
+pub mod Removes
+pub mod Syncs
+pub mod Cuts

@@ -1,5 +1,5 @@
 // A glob before it is used: what a crash left of its sections is checked, and cut.
-ghost use Rattle.std.specs.Prelude.{◌≡◌, ◌≢◌, ◌↔◌, ◌⊎◌, ◌≤◌, ◌<◌, ◌-◌, ◌^◌, ℕ, List, Some, None, Ok, Err, false, take, length, IfOk, OnOk, OnErr, IsSome, IsSomeAnd, IsTrue, string_bytes};
+ghost use Rattle.std.specs.Prelude.{◌≡◌, ◌≢◌, ◌↔◌, ◌⊎◌, ◌≤◌, ◌<◌, ◌-◌, ◌^◌, ℕ, List, Some, Ok, Err, false, take, length, IfOk, OnOk, OnErr, IsSome, IsSomeAnd, IsTrue, string_bytes};
 ghost use Rattle.std.specs.Result.{IsErrOf};
 ghost use Rattle.std.specs.List.{Contains};
 ghost use Rattle.std.specs.List.Sorted.{IsStrictlySortedBy};
@@ -9,15 +9,12 @@ ghost use Rattle.blob_device.specs.Disk.{Key, nothing};
 ghost use Rattle.blob_device.specs.Timeline.{disk, Always, Each};
 ghost use Rattle.sealed_pages.specs.Entries.{ReadsAtMost};
 ghost use Rattle.sealed_pages.specs.Reading.{Unchanged};
-ghost use Rattle.section_manager.specs.Leaving.{AllMoments};
-ghost use Rattle.section_manager.specs.unsealed.Buffer.{content_of};
 ghost use Rattle.section_manager.specs.Entries.{StartsNoRead};
-ghost use Rattle.section_manager.specs.Sections.{section_key, key_of, IsHeld, IsKnown, IsGone, IsSame, SamePlace, SameBounds, IsKeyOf, IsCut};
+ghost use Rattle.section_manager.specs.Sections.{section_key, key_of, IsHeld};
 ghost use Rattle.section_manager.specs.Lasting.{IsSettling};
 ghost use Rattle.section_manager.specs.Refusing.{HasFailed, IsPruned, IsForeign};
 ghost use Rattle.paired.specs.Frames.{IsSealed};
 ghost use Rattle.paired.specs.glob.Reading.{IsInside};
-ghost use Rattle.paired.specs.glob.Lasting.{Outlasts, settled_to, Cutting, Truncating};
 ghost use Rattle.paired.specs.Records.{is_sound};
 
 use super::framing::spelled;
@@ -89,7 +86,9 @@ impl<V: Codec, S: Seal> Recovery<V, S> {
     }
 
     ghost use Rattle.section_manager.specs.managing.Managed.{shown};
-    ghost use Rattle.paired.specs.glob.Sections.{IsGlob, section_bytes, section_size, HasSettled, IsAllSettled, IsLonger};
+    ghost use Rattle.paired.specs.glob.Sections.{IsGlob, section_bytes, section_size, HasSettled, IsAllSettled};
+    ghost use Rattle.paired.specs.glob.Shown.{shown_recovery, IsGlobOn};
+    ghost use Rattle.paired.specs.glob.Cuts.{TruncatesGlob, CutsSection, CutsSections};
 
     /// Opens the sections of the partition up to this one. The later ones are not held, until a [`truncate`](Recovery::truncate), a
     /// [`prune`](Glob::prune) or a [`destroy`](Glob::destroy) removes them.
@@ -204,35 +203,10 @@ impl<V: Codec, S: Seal> Recovery<V, S> {
     /// Removes the later sections, the newest first, and then shortens this one to `size` bytes, if it is held and longer. A shorter
     /// length is durable when this returns. The ceiling is lifted.
     pub fn truncate<D: Device>(self, dev: &mut D, section: u64, size: u64) -> Result<Self, Error>
-        requires over { IsGlob ⟦<WriteBlob as SectionBuffer>⟧ ⟦<WriteFactory as BufferFactory>⟧.gives D.Tells (shown self.manager) (D.opened dev.old) (disk (D.time dev.old)) }
+        requires over { IsGlobOn D.Device (shown self.manager) dev.old }
         requires ceiling { section ≤ (shown self.manager).ceiling }
-        ensures over { IfOk result (λ r. IsGlob ⟦<WriteBlob as SectionBuffer>⟧ ⟦<WriteFactory as BufferFactory>⟧.gives D.Tells (shown r.manager) (D.opened dev.new) (disk (D.time dev.new))) }
-        ensures later { IfOk result (λ r. (s : ℕ) → section < s → IsGone (shown r.manager) s) }
-        ensures earlier { IfOk result (λ r. (s : ℕ) → s < section → IsSame (shown self.manager) (shown r.manager) s) }
-        ensures earlier_bytes { D.Tells → IfOk result (λ r. (s : ℕ) → s < section → section_bytes (shown r.manager) (disk (D.time dev.new)) s ≡ section_bytes (shown self.manager) (disk (D.time dev.old)) s) }
-        ensures bytes { D.Tells → IfOk result (λ r. section_bytes (shown r.manager) (disk (D.time dev.new)) section ≡ take size (section_bytes (shown self.manager) (disk (D.time dev.old)) section)) }
-        // Where it was longer, what is left has settled.
-        ensures settled { D.Tells → IfOk result (λ r. IsLonger (shown self.manager) section size → HasSettled (shown r.manager) (disk (D.time dev.new)) section) }
-        ensures all_settled { IfOk result (λ r. IsLonger (shown self.manager) section size → IsAllSettled (shown r.manager) section) }
-        ensures cut { IfOk result (λ r. (u : _) → (shown self.manager).held section ≡ Some u
-            → IsSomeAnd ((shown r.manager).held section) (λ v. IsCut ⟦<WriteBlob as SectionBuffer>⟧ D.Tells size u v (disk (D.time dev.old) (key_of (shown self.manager) section)) (disk (D.time dev.new) (key_of (shown self.manager) section)))) }
-        ensures absent { IfOk result (λ r. (shown self.manager).held section ≡ None → (shown r.manager).held section ≡ None) }
-        ensures unopened { IfOk result (λ r. (shown r.manager).unopened section ≡ (shown self.manager).unopened section) }
-        ensures place { IfOk result (λ r. SamePlace (shown self.manager) (shown r.manager)) }
-        ensures floor { IfOk result (λ r. (shown r.manager).floor ≡ (shown self.manager).floor) }
-        ensures lifted { IfOk result (λ r. (shown r.manager).ceiling ≡ 2 ^ 64 - 1) }
-        ensures codec_config { IfOk result (λ r. r.codec_config ≡ self.codec_config) }
-        // At every moment, also where the call fails, no blob is touched before those of all sections that go before it are gone, the
-        // section's own the last; each crash leaves of it what had settled, up to the cut, and behind it only what its bytes make.
-        ensures moments { D.Tells → Always (D.time dev.old) (D.time dev.new) (Truncating (shown self.manager) section size (disk (D.time dev.old))) }
-        ensures gone { D.Tells → OnOk result ((s : ℕ) → IsKnown (shown self.manager) s → section < s → disk (D.time dev.new) (key_of (shown self.manager) s) ≡ nothing) }
-        ensures idle { ((s : ℕ) → IsKnown (shown self.manager) s → s ≤ section) → (IsLonger (shown self.manager) section size → ⊥) → dev.new ≡ dev.old }
-        ensures entries { (q : Key) → q ≢ key_of (shown self.manager) section → (D.opened dev.new q ≡ D.opened dev.old q) ⊎ (IsKeyOf (shown self.manager) (λ s. IsKnown (shown self.manager) s × (section < s)) q × (D.opened dev.new q ≡ None)) }
-        ensures reads { StartsNoRead (D.opened dev.old) (D.opened dev.new) }
-        ensures guard { IsPruned result (shown self.manager).floor ↔ (section < (shown self.manager).floor) }
-        ensures refuses { section < (shown self.manager).floor → dev.new ≡ dev.old }
-        ensures faults { D.faults dev.old ≤ D.faults dev.new }
-        ensures cause { OnErr result (IsPruned result (shown self.manager).floor ⊎ HasFailed result (D.faults dev.old) (D.faults dev.new)) }
+        ensures { TruncatesGlob D.Device (shown_recovery self) dev.old dev.new shown_recovery section size
+            result }
     {
         let mut this = self;
         // The manager removes the later sections first: none outlasts the cut of one before it.
@@ -247,30 +221,9 @@ impl<V: Codec, S: Seal> Recovery<V, S> {
         section: u64,
         size: u64,
     ) -> Result<Self, Error>
-        requires over { IsGlob ⟦<WriteBlob as SectionBuffer>⟧ ⟦<WriteFactory as BufferFactory>⟧.gives D.Tells (shown self.manager) (D.opened dev.old) (disk (D.time dev.old)) }
-        ensures over { IfOk result (λ r. IsGlob ⟦<WriteBlob as SectionBuffer>⟧ ⟦<WriteFactory as BufferFactory>⟧.gives D.Tells (shown r.manager) (D.opened dev.new) (disk (D.time dev.new))) }
-        ensures bytes { D.Tells → IfOk result (λ r. section_bytes (shown r.manager) (disk (D.time dev.new)) section ≡ take size (section_bytes (shown self.manager) (disk (D.time dev.old)) section)) }
-        ensures other_bytes { D.Tells → IfOk result (λ r. (q : ℕ) → q ≢ section → section_bytes (shown r.manager) (disk (D.time dev.new)) q ≡ section_bytes (shown self.manager) (disk (D.time dev.old)) q) }
-        ensures settled { D.Tells → IfOk result (λ r. IsLonger (shown self.manager) section size → HasSettled (shown r.manager) (disk (D.time dev.new)) section) }
-        ensures all_settled { IfOk result (λ r. IsLonger (shown self.manager) section size → IsAllSettled (shown r.manager) section) }
-        ensures cut { IfOk result (λ r. (u : _) → (shown self.manager).held section ≡ Some u
-            → IsSomeAnd ((shown r.manager).held section) (λ v. IsCut ⟦<WriteBlob as SectionBuffer>⟧ D.Tells size u v (disk (D.time dev.old) (key_of (shown self.manager) section)) (disk (D.time dev.new) (key_of (shown self.manager) section)))) }
-        ensures absent { IfOk result (λ r. (shown self.manager).held section ≡ None → (shown r.manager).held section ≡ None) }
-        ensures unopened { IfOk result (λ r. (shown r.manager).unopened section ≡ (shown self.manager).unopened section) }
-        ensures others { IfOk result (λ r. (q : ℕ) → q ≢ section → IsSame (shown self.manager) (shown r.manager) q) }
-        ensures bounds { IfOk result (λ r. SameBounds (shown self.manager) (shown r.manager)) }
-        ensures codec_config { IfOk result (λ r. r.codec_config ≡ self.codec_config) }
-        // At every moment, also where the call fails, each crash leaves of the section what had settled, up to the cut, and behind it
-        // only what its bytes make; no other blob changes.
-        ensures moments { D.Tells → AllMoments (key_of (shown self.manager) section) (λ b. (u : _) → (shown self.manager).held section ≡ Some u
-            → Outlasts (settled_to size u (disk (D.time dev.old) (key_of (shown self.manager) section)).content) (content_of u (disk (D.time dev.old) (key_of (shown self.manager) section)).content) b) (D.time dev.old) (D.time dev.new) }
-        ensures idle { (IsLonger (shown self.manager) section size → ⊥) → dev.new ≡ dev.old }
-        ensures entries { (q : Key) → q ≢ key_of (shown self.manager) section → D.opened dev.new q ≡ D.opened dev.old q }
-        ensures reads { StartsNoRead (D.opened dev.old) (D.opened dev.new) }
-        ensures guard { IsPruned result (shown self.manager).floor ↔ (section < (shown self.manager).floor) }
-        ensures refuses { section < (shown self.manager).floor → dev.new ≡ dev.old }
-        ensures faults { D.faults dev.old ≤ D.faults dev.new }
-        ensures cause { OnErr result (IsPruned result (shown self.manager).floor ⊎ HasFailed result (D.faults dev.old) (D.faults dev.new)) }
+        requires over { IsGlobOn D.Device (shown self.manager) dev.old }
+        ensures { CutsSection D.Device (shown_recovery self) dev.old dev.new shown_recovery section size
+            result }
     {
         let mut this = self;
         // Durable when it returns, so that frames may be written there again.
@@ -285,29 +238,9 @@ impl<V: Codec, S: Seal> Recovery<V, S> {
         dev: &mut D,
         sizes: &BTreeMap<u64, u64>,
     ) -> Result<Self, Error>
-        requires over { IsGlob ⟦<WriteBlob as SectionBuffer>⟧ ⟦<WriteFactory as BufferFactory>⟧.gives D.Tells (shown self.manager) (D.opened dev.old) (disk (D.time dev.old)) }
-        ensures over { IfOk result (λ r. IsGlob ⟦<WriteBlob as SectionBuffer>⟧ ⟦<WriteFactory as BufferFactory>⟧.gives D.Tells (shown r.manager) (D.opened dev.new) (disk (D.time dev.new))) }
-        ensures bytes { D.Tells → IfOk result (λ r. (s n : ℕ) → get nat_cmp sizes.now s ≡ Some n
-            → section_bytes (shown r.manager) (disk (D.time dev.new)) s ≡ take n (section_bytes (shown self.manager) (disk (D.time dev.old)) s)) }
-        ensures other_bytes { D.Tells → IfOk result (λ r. (s : ℕ) → get nat_cmp sizes.now s ≡ None
-            → section_bytes (shown r.manager) (disk (D.time dev.new)) s ≡ section_bytes (shown self.manager) (disk (D.time dev.old)) s) }
-        ensures settled { D.Tells → IfOk result (λ r. (s n : ℕ) → get nat_cmp sizes.now s ≡ Some n → IsLonger (shown self.manager) s n → HasSettled (shown r.manager) (disk (D.time dev.new)) s) }
-        ensures all_settled { IfOk result (λ r. (s n : ℕ) → get nat_cmp sizes.now s ≡ Some n → IsLonger (shown self.manager) s n → IsAllSettled (shown r.manager) s) }
-        ensures cut { IfOk result (λ r. (s n : ℕ) (u : _) → get nat_cmp sizes.now s ≡ Some n → (shown self.manager).held s ≡ Some u
-            → IsSomeAnd ((shown r.manager).held s) (λ v. IsCut ⟦<WriteBlob as SectionBuffer>⟧ D.Tells n u v (disk (D.time dev.old) (key_of (shown self.manager) s)) (disk (D.time dev.new) (key_of (shown self.manager) s)))) }
-        ensures absent { IfOk result (λ r. (s : ℕ) → (shown self.manager).held s ≡ None → (shown r.manager).held s ≡ None) }
-        ensures others { IfOk result (λ r. (s : ℕ) → get nat_cmp sizes.now s ≡ None → (shown r.manager).held s ≡ (shown self.manager).held s) }
-        ensures unopened { IfOk result (λ r. (s : ℕ) → (shown r.manager).unopened s ≡ (shown self.manager).unopened s) }
-        ensures bounds { IfOk result (λ r. SameBounds (shown self.manager) (shown r.manager)) }
-        ensures codec_config { IfOk result (λ r. r.codec_config ≡ self.codec_config) }
-        ensures moments { D.Tells → Always (D.time dev.old) (D.time dev.new) (Each (Cutting (shown self.manager) (get nat_cmp sizes.now) (disk (D.time dev.old)))) }
-        ensures idle { ((s : ℕ) → IsSomeAnd (get nat_cmp sizes.now s) (IsLonger (shown self.manager) s) → ⊥) → dev.new ≡ dev.old }
-        ensures entries { (q : Key) → (IsKeyOf (shown self.manager) (λ s. IsSomeAnd (get nat_cmp sizes.now s) (IsLonger (shown self.manager) s)) q → ⊥) → D.opened dev.new q ≡ D.opened dev.old q }
-        ensures reads { StartsNoRead (D.opened dev.old) (D.opened dev.new) }
-        ensures guard { IsPruned result (shown self.manager).floor ↔ ((s : ℕ) × IsSome (get nat_cmp sizes.now s) × (s < (shown self.manager).floor)) }
-        ensures refuses { ((s : ℕ) × IsSome (get nat_cmp sizes.now s) × (s < (shown self.manager).floor)) → dev.new ≡ dev.old }
-        ensures faults { D.faults dev.old ≤ D.faults dev.new }
-        ensures cause { OnErr result (IsPruned result (shown self.manager).floor ⊎ HasFailed result (D.faults dev.old) (D.faults dev.new)) }
+        requires over { IsGlobOn D.Device (shown self.manager) dev.old }
+        ensures { CutsSections D.Device (shown_recovery self) dev.old dev.new shown_recovery
+            (get nat_cmp sizes.now) result }
     {
         let mut this = self;
         // In one call, which checks all sections before one is cut.

@@ -6,16 +6,16 @@ ghost use Rattle.blob_device.specs.Disk.{Key};
 ghost use Rattle.blob_device.specs.Timeline.{disk, Always};
 ghost use Rattle.blob_device.specs.declared.runtime.RError.TheVariants.{Fault};
 ghost use Rattle.section_manager.specs.Lasting.{IsUnsettled};
-ghost use Rattle.section_manager.specs.Sections.{IsHeld, IsSame, SameBounds};
-ghost use Rattle.section_manager.specs.Refusing.{HasFailed, IsPruned};
+ghost use Rattle.section_manager.specs.Sections.{IsHeld, SameBounds};
+ghost use Rattle.section_manager.specs.Refusing.{HasFailed};
 ghost use Rattle.meta_store.specs.Blobs.{blob_of, other_side};
-ghost use Rattle.paired.specs.Crashes.{IsBlobOf, IsCopy, IsIndexOf, IsOwn, IsValuesOf, InOrder, Keeping};
+ghost use Rattle.paired.specs.Crashes.{IsBlobOf, IsCopy, IsIndexOf, IsValuesOf, InOrder, Keeping};
 ghost use Rattle.paired.specs.glob.Sections as glob;
 ghost use Rattle.paired.specs.Kept.{IsMarked, IsSameLayout, marker_of};
 ghost use Rattle.paired.specs.Pair.{IsPair, IsSafeOn, IsSoundOn, IsMoving, list_of, length_of, synced_length};
-ghost use Rattle.paired.specs.PairFaults.{StandSettled, FaultsInOrder};
+ghost use Rattle.paired.specs.PairFaults.{FaultsInOrder};
 ghost use Rattle.paired.specs.PairRefusing.{HasLostMarkers};
-ghost use Rattle.paired.specs.PairSync.{IsSyncOf, MovesMarkers, SyncKeeps};
+ghost use Rattle.paired.specs.PairSync.{MovesMarkers, SyncKeeps};
 ghost use Rattle.paired.specs.Tracked.{Trails, synced_of};
 ghost use Rattle.paired.specs.sighted.Shown as tracked;
 ghost use Rattle.segments.specs.FixedLists.{section_size};
@@ -70,33 +70,17 @@ pub(super) fn note_synced<I: Record, S: Seal>(
 
 impl<I: Record, V: Codec, S: Seal> Oversized<I, V, S> {
     ghost use Rattle.paired.specs.PairShown.{shown};
+    ghost use Rattle.paired.specs.PairSyncs.{SettlesPair, SyncsTracked};
+    ghost use Rattle.paired.specs.PairUse.{IsPairOver};
 
     /// Settles these sections, and leaves their markers to a later sync. One that is not held is passed over.
     pub fn sync<D: Device>(self, dev: &mut D, sections: &[u64]) -> Result<Self, Error>
-        requires over { IsPair ⟦<PageBlob<S> as SectionBuffer>⟧ ⟦<AppendFactory<S> as BufferFactory>⟧.gives ⟦<WriteBlob as SectionBuffer>⟧ ⟦<WriteFactory as BufferFactory>⟧.gives D.Tells (shown I.place self) (D.opened dev.old) (disk (D.time dev.old)) }
-        ensures over { IfOk result (λ r. IsPair ⟦<PageBlob<S> as SectionBuffer>⟧ ⟦<AppendFactory<S> as BufferFactory>⟧.gives ⟦<WriteBlob as SectionBuffer>⟧ ⟦<WriteFactory as BufferFactory>⟧.gives D.Tells (shown I.place r) (D.opened dev.new) (disk (D.time dev.new))) }
-        ensures sound { D.Tells → IsSoundOn (shown I.place self) (disk (D.time dev.old)) → IfOk result (λ r. IsSoundOn (shown I.place r) (disk (D.time dev.new))) }
-        ensures lists { D.Tells → IfOk result (λ r. (s : ℕ) → list_of (shown I.place r) (disk (D.time dev.new)) s ≡ list_of (shown I.place self) (disk (D.time dev.old)) s) }
-        // All of the named sections is synced, and the markers of the others are moved to what was synced of these.
-        ensures synced { IfOk result (λ r. IsSyncOf (shown I.place self) (Contains sections.now) (Contains sections.now) (shown I.place r)) }
-        ensures codec_config { IfOk result (λ r. r.values.codec_config ≡ self.values.codec_config) }
-        // At every moment, also where the call fails, each crash leaves of each section a prefix of its list that holds what was synced, and markers that
-        // are true. Records change first, then values, then markers, and no other blob.
-        ensures moments { D.Tells → SyncKeeps (shown I.place self) (Contains sections.now) (Contains sections.now) (D.time dev.old) (D.time dev.new) }
-        ensures guard { IsPruned result (shown I.place self).index.sections.floor ↔ ((s : ℕ) × Contains sections.now s × (s < (shown I.place self).index.sections.floor)) }
-        ensures refuses { ((s : ℕ) × Contains sections.now s × (s < (shown I.place self).index.sections.floor)) → dev.new ≡ dev.old }
-        // Where nothing is left to settle and no marker moves, no call of the device is made.
-        ensures idle { ((s : ℕ) → Contains sections.now s → IsUnsettled ⟦<PageBlob<S> as SectionBuffer>⟧ (shown I.place self).index.sections s ⊎ glob.IsUnsettled (shown I.place self).values s → ⊥) → (((s : ℕ) × IsMoving (shown I.place self) (Contains sections.now) (Contains sections.now) s) → ⊥) → dev.new ≡ dev.old }
-        ensures entries { (q : Key) → (IsOwn (shown I.place self).layout (Contains sections.now) q → ⊥) → D.opened dev.new q ≡ D.opened dev.old q }
-        // `Full` exactly where a marker moves and the version of the markers would pass the greatest `u64`.
-        ensures full { IsErrOf result Error.Full → (2 ^ 64 ≤ (shown I.place self).store.version + 1) × ((s : ℕ) × IsMoving (shown I.place self) (Contains sections.now) (Contains sections.now) s) }
-        ensures no_version { 2 ^ 64 ≤ (shown I.place self).store.version + 1 → ((s : ℕ) × IsMoving (shown I.place self) (Contains sections.now) (Contains sections.now) s) → OnOk result ⊥ }
-        ensures lost { HasLostMarkers result (D.faults dev.old) (D.faults dev.new) → ((s : ℕ) × IsMoving (shown I.place self) (Contains sections.now) (Contains sections.now) s) }
-        // Where the device fails in a call of index or values, no copy of the markers has changed; where the markers are full, or it fails in one
-        // of their calls, the named sections have settled.
-        ensures fault { D.Tells → FaultsInOrder (shown I.place self) (Contains sections.now) result (D.faults dev.old) (D.faults dev.new) (D.time dev.old) (D.time dev.new) }
-        ensures faults { D.faults dev.old ≤ D.faults dev.new }
-        ensures cause { OnErr result (IsPruned result (shown I.place self).index.sections.floor ⊎ (IsErrOf result Error.Full ⊎ (HasFailed result (D.faults dev.old) (D.faults dev.new) ⊎ HasLostMarkers result (D.faults dev.old) (D.faults dev.new)))) }
+        requires over { IsPairOver ⟦<PageBlob<S> as SectionBuffer>⟧
+            ⟦<AppendFactory<S> as BufferFactory>⟧.gives D.Device (shown I.place self) dev.old }
+        ensures { SyncsTracked ⟦<PageBlob<S> as SectionBuffer>⟧
+            ⟦<AppendFactory<S> as BufferFactory>⟧.gives D.Device (shown I.place self)
+            self.values.codec_config dev.old dev.new (λ r. shown I.place r) (λ r. r.values.codec_config)
+            (Contains sections.now) (Contains sections.now) result }
     {
         self.sync_tracked(dev, sections, sections)
     }
@@ -107,30 +91,12 @@ impl<I: Record, V: Codec, S: Seal> Oversized<I, V, S> {
         dev: &mut D,
         sections: &[u64],
     ) -> Result<(Self, Handle), Error>
-        requires over { IsPair ⟦<PageBlob<S> as SectionBuffer>⟧ ⟦<AppendFactory<S> as BufferFactory>⟧.gives ⟦<WriteBlob as SectionBuffer>⟧ ⟦<WriteFactory as BufferFactory>⟧.gives D.Tells (shown I.place self) (D.opened dev.old) (disk (D.time dev.old)) }
-        ensures over { IfOk result (λ r. IsPair ⟦<PageBlob<S> as SectionBuffer>⟧ ⟦<AppendFactory<S> as BufferFactory>⟧.gives ⟦<WriteBlob as SectionBuffer>⟧ ⟦<WriteFactory as BufferFactory>⟧.gives D.Tells (shown I.place r.0) (D.opened dev.new) (disk (D.time dev.new))) }
-        ensures sound { D.Tells → IsSoundOn (shown I.place self) (disk (D.time dev.old)) → IfOk result (λ r. IsSoundOn (shown I.place r.0) (disk (D.time dev.new))) }
-        ensures lists { D.Tells → IfOk result (λ r. (s : ℕ) → list_of (shown I.place r.0) (disk (D.time dev.new)) s ≡ list_of (shown I.place self) (disk (D.time dev.old)) s) }
-        // All of the named sections is synced, and the markers of the others are moved to what was synced of these.
-        ensures synced { IfOk result (λ r. IsSyncOf (shown I.place self) (Contains sections.now) (Contains sections.now) (shown I.place r.0)) }
-        ensures codec_config { IfOk result (λ r. r.0.values.codec_config ≡ self.values.codec_config) }
-        // At every moment, also where the call fails, each crash leaves of each section a prefix of its list that holds what was synced, and markers that
-        // are true. Records change first, then values, then markers, and no other blob.
-        ensures moments { D.Tells → SyncKeeps (shown I.place self) (Contains sections.now) (Contains sections.now) (D.time dev.old) (D.time dev.new) }
-        ensures guard { IsPruned result (shown I.place self).index.sections.floor ↔ ((s : ℕ) × Contains sections.now s × (s < (shown I.place self).index.sections.floor)) }
-        ensures refuses { ((s : ℕ) × Contains sections.now s × (s < (shown I.place self).index.sections.floor)) → dev.new ≡ dev.old }
-        // Where nothing is left to settle and no marker moves, no call of the device is made.
-        ensures idle { ((s : ℕ) → Contains sections.now s → IsUnsettled ⟦<PageBlob<S> as SectionBuffer>⟧ (shown I.place self).index.sections s ⊎ glob.IsUnsettled (shown I.place self).values s → ⊥) → (((s : ℕ) × IsMoving (shown I.place self) (Contains sections.now) (Contains sections.now) s) → ⊥) → dev.new ≡ dev.old }
-        ensures entries { (q : Key) → (IsOwn (shown I.place self).layout (Contains sections.now) q → ⊥) → D.opened dev.new q ≡ D.opened dev.old q }
-        // `Full` exactly where a marker moves and the version of the markers would pass the greatest `u64`.
-        ensures full { IsErrOf result Error.Full → (2 ^ 64 ≤ (shown I.place self).store.version + 1) × ((s : ℕ) × IsMoving (shown I.place self) (Contains sections.now) (Contains sections.now) s) }
-        ensures no_version { 2 ^ 64 ≤ (shown I.place self).store.version + 1 → ((s : ℕ) × IsMoving (shown I.place self) (Contains sections.now) (Contains sections.now) s) → OnOk result ⊥ }
-        ensures lost { HasLostMarkers result (D.faults dev.old) (D.faults dev.new) → ((s : ℕ) × IsMoving (shown I.place self) (Contains sections.now) (Contains sections.now) s) }
-        // Where the device fails in a call of index or values, no copy of the markers has changed; where the markers are full, or it fails in one
-        // of their calls, the named sections have settled.
-        ensures fault { D.Tells → FaultsInOrder (shown I.place self) (Contains sections.now) result (D.faults dev.old) (D.faults dev.new) (D.time dev.old) (D.time dev.new) }
-        ensures faults { D.faults dev.old ≤ D.faults dev.new }
-        ensures cause { OnErr result (IsPruned result (shown I.place self).index.sections.floor ⊎ (IsErrOf result Error.Full ⊎ (HasFailed result (D.faults dev.old) (D.faults dev.new) ⊎ HasLostMarkers result (D.faults dev.old) (D.faults dev.new)))) }
+        requires over { IsPairOver ⟦<PageBlob<S> as SectionBuffer>⟧
+            ⟦<AppendFactory<S> as BufferFactory>⟧.gives D.Device (shown I.place self) dev.old }
+        ensures { SyncsTracked ⟦<PageBlob<S> as SectionBuffer>⟧
+            ⟦<AppendFactory<S> as BufferFactory>⟧.gives D.Device (shown I.place self)
+            self.values.codec_config dev.old dev.new (λ r. shown I.place r.0) (λ r. r.0.values.codec_config)
+            (Contains sections.now) (Contains sections.now) result }
     {
         self.start_sync_tracked(dev, sections, sections)
     }
@@ -169,33 +135,12 @@ impl<I: Record, V: Codec, S: Seal> Oversized<I, V, S> {
 
     // Settles the records of these sections, then their values, and notes what was synced. No marker moves.
     fn settle<D: Device>(self, dev: &mut D, sections: &[u64]) -> Result<Self, Error>
-        requires over { IsPair ⟦<PageBlob<S> as SectionBuffer>⟧ ⟦<AppendFactory<S> as BufferFactory>⟧.gives ⟦<WriteBlob as SectionBuffer>⟧ ⟦<WriteFactory as BufferFactory>⟧.gives D.Tells (shown I.place self) (D.opened dev.old) (disk (D.time dev.old)) }
-        ensures over { IfOk result (λ r. IsPair ⟦<PageBlob<S> as SectionBuffer>⟧ ⟦<AppendFactory<S> as BufferFactory>⟧.gives ⟦<WriteBlob as SectionBuffer>⟧ ⟦<WriteFactory as BufferFactory>⟧.gives D.Tells (shown I.place r) (D.opened dev.new) (disk (D.time dev.new))) }
-        ensures sound { D.Tells → IsSoundOn (shown I.place self) (disk (D.time dev.old)) → IfOk result (λ r. IsSoundOn (shown I.place r) (disk (D.time dev.new))) }
-        ensures lists { D.Tells → IfOk result (λ r. (s : ℕ) → list_of (shown I.place r) (disk (D.time dev.new)) s ≡ list_of (shown I.place self) (disk (D.time dev.old)) s) }
-        ensures lengths { IfOk result (λ r. (s : ℕ) → length_of (shown I.place r) s ≡ length_of (shown I.place self) s) }
-        ensures sizes { IfOk result (λ r. (s : ℕ) → glob.section_size (shown I.place r).values s ≡ glob.section_size (shown I.place self).values s) }
-        ensures held { IfOk result (λ r. (s : ℕ) → IsHeld (shown I.place r).index.sections s ↔ IsHeld (shown I.place self).index.sections s) }
-        ensures values_held { IfOk result (λ r. (s : ℕ) → IsHeld (shown I.place r).values s ↔ IsHeld (shown I.place self).values s) }
-        ensures same { IfOk result (λ r. (s : ℕ) → (Contains sections.now s → ⊥) → IsSame (shown I.place self).index.sections (shown I.place r).index.sections s × IsSame (shown I.place self).values (shown I.place r).values s) }
-        ensures named { IfOk result (λ r. (s : ℕ) → Contains sections.now s → synced_length (shown I.place r) s ≡ length_of (shown I.place self) s) }
-        ensures settled { IfOk result (λ r. (s : ℕ) → Contains sections.now s → IsHeld (shown I.place self).values s → glob.IsAllSettled (shown I.place r).values s) }
-        ensures others { IfOk result (λ r. (s : ℕ) → (Contains sections.now s → ⊥) → synced_length (shown I.place r) s ≡ synced_length (shown I.place self) s) }
-        ensures store { IfOk result (λ r. (shown I.place r).store ≡ (shown I.place self).store) }
-        ensures bounds { IfOk result (λ r. SameBounds (shown I.place self).index.sections (shown I.place r).index.sections × SameBounds (shown I.place self).values (shown I.place r).values) }
-        ensures layout { IfOk result (λ r. IsSameLayout (shown I.place self).layout (shown I.place r).layout) }
-        ensures codec_config { IfOk result (λ r. r.values.codec_config ≡ self.values.codec_config) }
-        ensures moments { D.Tells → IsSafeOn (shown I.place self) (disk (D.time dev.old)) → Keeping (shown I.place self).layout (list_of (shown I.place self) (disk (D.time dev.old))) (synced_length (shown I.place self)) (λ _. ⊥) (IsBlobOf (shown I.place self).layout (Contains sections.now)) (D.time dev.old) (D.time dev.new) }
-        ensures alone { D.Tells → Always (D.time dev.old) (D.time dev.new) (λ d. (q : Key) → (IsBlobOf (shown I.place self).layout (Contains sections.now) q → ⊥) → d q ≡ disk (D.time dev.old) q) }
-        ensures untouched { D.Tells → Always (D.time dev.old) (D.time dev.new) (λ d. (q : Key) → (IsBlobOf (shown I.place self).layout (λ s. Contains sections.now s × IsHeld (shown I.place self).index.sections s) q → ⊥) → d q ≡ disk (D.time dev.old) q) }
-        ensures order { D.Tells → InOrder (IsIndexOf (shown I.place self).layout (Contains sections.now)) (IsValuesOf (shown I.place self).layout (Contains sections.now)) (D.time dev.old) (D.time dev.new) }
-        ensures rests { D.Tells → OnOk result (StandSettled (shown I.place self) (Contains sections.now) (disk (D.time dev.new))) }
-        ensures guard { IsPruned result (shown I.place self).index.sections.floor ↔ ((s : ℕ) × Contains sections.now s × (s < (shown I.place self).index.sections.floor)) }
-        ensures refuses { ((s : ℕ) × Contains sections.now s × (s < (shown I.place self).index.sections.floor)) → dev.new ≡ dev.old }
-        ensures idle { ((s : ℕ) → Contains sections.now s → IsUnsettled ⟦<PageBlob<S> as SectionBuffer>⟧ (shown I.place self).index.sections s ⊎ glob.IsUnsettled (shown I.place self).values s → ⊥) → dev.new ≡ dev.old }
-        ensures entries { (q : Key) → (IsBlobOf (shown I.place self).layout (Contains sections.now) q → ⊥) → D.opened dev.new q ≡ D.opened dev.old q }
-        ensures faults { D.faults dev.old ≤ D.faults dev.new }
-        ensures cause { OnErr result (IsPruned result (shown I.place self).index.sections.floor ⊎ HasFailed result (D.faults dev.old) (D.faults dev.new)) }
+        requires over { IsPairOver ⟦<PageBlob<S> as SectionBuffer>⟧
+            ⟦<AppendFactory<S> as BufferFactory>⟧.gives D.Device (shown I.place self) dev.old }
+        ensures { SettlesPair ⟦<PageBlob<S> as SectionBuffer>⟧
+            ⟦<AppendFactory<S> as BufferFactory>⟧.gives D.Device (shown I.place self)
+            self.values.codec_config dev.old dev.new (λ r. shown I.place r) (λ r. r.values.codec_config)
+            (Contains sections.now) result }
     {
         let mut this = self;
         // Records, then values, as `SyncKeeps.order` says. Either order is safe: an opening checks values
@@ -255,30 +200,12 @@ impl<I: Record, V: Codec, S: Seal> Oversized<I, V, S> {
         sections: &[u64],
         active: &[u64],
     ) -> Result<Self, Error>
-        requires over { IsPair ⟦<PageBlob<S> as SectionBuffer>⟧ ⟦<AppendFactory<S> as BufferFactory>⟧.gives ⟦<WriteBlob as SectionBuffer>⟧ ⟦<WriteFactory as BufferFactory>⟧.gives D.Tells (shown I.place self) (D.opened dev.old) (disk (D.time dev.old)) }
-        ensures over { IfOk result (λ r. IsPair ⟦<PageBlob<S> as SectionBuffer>⟧ ⟦<AppendFactory<S> as BufferFactory>⟧.gives ⟦<WriteBlob as SectionBuffer>⟧ ⟦<WriteFactory as BufferFactory>⟧.gives D.Tells (shown I.place r) (D.opened dev.new) (disk (D.time dev.new))) }
-        ensures sound { D.Tells → IsSoundOn (shown I.place self) (disk (D.time dev.old)) → IfOk result (λ r. IsSoundOn (shown I.place r) (disk (D.time dev.new))) }
-        ensures lists { D.Tells → IfOk result (λ r. (s : ℕ) → list_of (shown I.place r) (disk (D.time dev.new)) s ≡ list_of (shown I.place self) (disk (D.time dev.old)) s) }
-        // All of the named sections is synced, and the markers of the sections that are not active are moved to what was synced of these.
-        ensures synced { IfOk result (λ r. IsSyncOf (shown I.place self) (Contains sections.now) (Contains active.now) (shown I.place r)) }
-        ensures codec_config { IfOk result (λ r. r.values.codec_config ≡ self.values.codec_config) }
-        // At every moment, also where the call fails, each crash leaves of each section a prefix of its list that holds what was synced, and markers that
-        // are true. Records change first, then values, then markers, and no other blob.
-        ensures moments { D.Tells → SyncKeeps (shown I.place self) (Contains sections.now) (Contains active.now) (D.time dev.old) (D.time dev.new) }
-        ensures guard { IsPruned result (shown I.place self).index.sections.floor ↔ ((s : ℕ) × Contains sections.now s × (s < (shown I.place self).index.sections.floor)) }
-        ensures refuses { ((s : ℕ) × Contains sections.now s × (s < (shown I.place self).index.sections.floor)) → dev.new ≡ dev.old }
-        // Where nothing is left to settle and no marker moves, no call of the device is made.
-        ensures idle { ((s : ℕ) → Contains sections.now s → IsUnsettled ⟦<PageBlob<S> as SectionBuffer>⟧ (shown I.place self).index.sections s ⊎ glob.IsUnsettled (shown I.place self).values s → ⊥) → (((s : ℕ) × IsMoving (shown I.place self) (Contains sections.now) (Contains active.now) s) → ⊥) → dev.new ≡ dev.old }
-        ensures entries { (q : Key) → (IsOwn (shown I.place self).layout (Contains sections.now) q → ⊥) → D.opened dev.new q ≡ D.opened dev.old q }
-        // `Full` exactly where a marker moves and the version of the markers would pass the greatest `u64`.
-        ensures full { IsErrOf result Error.Full → (2 ^ 64 ≤ (shown I.place self).store.version + 1) × ((s : ℕ) × IsMoving (shown I.place self) (Contains sections.now) (Contains active.now) s) }
-        ensures no_version { 2 ^ 64 ≤ (shown I.place self).store.version + 1 → ((s : ℕ) × IsMoving (shown I.place self) (Contains sections.now) (Contains active.now) s) → OnOk result ⊥ }
-        ensures lost { HasLostMarkers result (D.faults dev.old) (D.faults dev.new) → ((s : ℕ) × IsMoving (shown I.place self) (Contains sections.now) (Contains active.now) s) }
-        // Where the device fails in a call of index or values, no copy of the markers has changed; where the markers are full, or it fails in one
-        // of their calls, the named sections have settled.
-        ensures fault { D.Tells → FaultsInOrder (shown I.place self) (Contains sections.now) result (D.faults dev.old) (D.faults dev.new) (D.time dev.old) (D.time dev.new) }
-        ensures faults { D.faults dev.old ≤ D.faults dev.new }
-        ensures cause { OnErr result (IsPruned result (shown I.place self).index.sections.floor ⊎ (IsErrOf result Error.Full ⊎ (HasFailed result (D.faults dev.old) (D.faults dev.new) ⊎ HasLostMarkers result (D.faults dev.old) (D.faults dev.new)))) }
+        requires over { IsPairOver ⟦<PageBlob<S> as SectionBuffer>⟧
+            ⟦<AppendFactory<S> as BufferFactory>⟧.gives D.Device (shown I.place self) dev.old }
+        ensures { SyncsTracked ⟦<PageBlob<S> as SectionBuffer>⟧
+            ⟦<AppendFactory<S> as BufferFactory>⟧.gives D.Device (shown I.place self)
+            self.values.codec_config dev.old dev.new (λ r. shown I.place r) (λ r. r.values.codec_config)
+            (Contains sections.now) (Contains active.now) result }
     {
         // First what the markers are to count.
         let this = self.settle(dev, sections)?;
@@ -292,30 +219,12 @@ impl<I: Record, V: Codec, S: Seal> Oversized<I, V, S> {
         sections: &[u64],
         active: &[u64],
     ) -> Result<(Self, Handle), Error>
-        requires over { IsPair ⟦<PageBlob<S> as SectionBuffer>⟧ ⟦<AppendFactory<S> as BufferFactory>⟧.gives ⟦<WriteBlob as SectionBuffer>⟧ ⟦<WriteFactory as BufferFactory>⟧.gives D.Tells (shown I.place self) (D.opened dev.old) (disk (D.time dev.old)) }
-        ensures over { IfOk result (λ r. IsPair ⟦<PageBlob<S> as SectionBuffer>⟧ ⟦<AppendFactory<S> as BufferFactory>⟧.gives ⟦<WriteBlob as SectionBuffer>⟧ ⟦<WriteFactory as BufferFactory>⟧.gives D.Tells (shown I.place r.0) (D.opened dev.new) (disk (D.time dev.new))) }
-        ensures sound { D.Tells → IsSoundOn (shown I.place self) (disk (D.time dev.old)) → IfOk result (λ r. IsSoundOn (shown I.place r.0) (disk (D.time dev.new))) }
-        ensures lists { D.Tells → IfOk result (λ r. (s : ℕ) → list_of (shown I.place r.0) (disk (D.time dev.new)) s ≡ list_of (shown I.place self) (disk (D.time dev.old)) s) }
-        // All of the named sections is synced, and the markers of the sections that are not active are moved to what was synced of these.
-        ensures synced { IfOk result (λ r. IsSyncOf (shown I.place self) (Contains sections.now) (Contains active.now) (shown I.place r.0)) }
-        ensures codec_config { IfOk result (λ r. r.0.values.codec_config ≡ self.values.codec_config) }
-        // At every moment, also where the call fails, each crash leaves of each section a prefix of its list that holds what was synced, and markers that
-        // are true. Records change first, then values, then markers, and no other blob.
-        ensures moments { D.Tells → SyncKeeps (shown I.place self) (Contains sections.now) (Contains active.now) (D.time dev.old) (D.time dev.new) }
-        ensures guard { IsPruned result (shown I.place self).index.sections.floor ↔ ((s : ℕ) × Contains sections.now s × (s < (shown I.place self).index.sections.floor)) }
-        ensures refuses { ((s : ℕ) × Contains sections.now s × (s < (shown I.place self).index.sections.floor)) → dev.new ≡ dev.old }
-        // Where nothing is left to settle and no marker moves, no call of the device is made.
-        ensures idle { ((s : ℕ) → Contains sections.now s → IsUnsettled ⟦<PageBlob<S> as SectionBuffer>⟧ (shown I.place self).index.sections s ⊎ glob.IsUnsettled (shown I.place self).values s → ⊥) → (((s : ℕ) × IsMoving (shown I.place self) (Contains sections.now) (Contains active.now) s) → ⊥) → dev.new ≡ dev.old }
-        ensures entries { (q : Key) → (IsOwn (shown I.place self).layout (Contains sections.now) q → ⊥) → D.opened dev.new q ≡ D.opened dev.old q }
-        // `Full` exactly where a marker moves and the version of the markers would pass the greatest `u64`.
-        ensures full { IsErrOf result Error.Full → (2 ^ 64 ≤ (shown I.place self).store.version + 1) × ((s : ℕ) × IsMoving (shown I.place self) (Contains sections.now) (Contains active.now) s) }
-        ensures no_version { 2 ^ 64 ≤ (shown I.place self).store.version + 1 → ((s : ℕ) × IsMoving (shown I.place self) (Contains sections.now) (Contains active.now) s) → OnOk result ⊥ }
-        ensures lost { HasLostMarkers result (D.faults dev.old) (D.faults dev.new) → ((s : ℕ) × IsMoving (shown I.place self) (Contains sections.now) (Contains active.now) s) }
-        // Where the device fails in a call of index or values, no copy of the markers has changed; where the markers are full, or it fails in one
-        // of their calls, the named sections have settled.
-        ensures fault { D.Tells → FaultsInOrder (shown I.place self) (Contains sections.now) result (D.faults dev.old) (D.faults dev.new) (D.time dev.old) (D.time dev.new) }
-        ensures faults { D.faults dev.old ≤ D.faults dev.new }
-        ensures cause { OnErr result (IsPruned result (shown I.place self).index.sections.floor ⊎ (IsErrOf result Error.Full ⊎ (HasFailed result (D.faults dev.old) (D.faults dev.new) ⊎ HasLostMarkers result (D.faults dev.old) (D.faults dev.new)))) }
+        requires over { IsPairOver ⟦<PageBlob<S> as SectionBuffer>⟧
+            ⟦<AppendFactory<S> as BufferFactory>⟧.gives D.Device (shown I.place self) dev.old }
+        ensures { SyncsTracked ⟦<PageBlob<S> as SectionBuffer>⟧
+            ⟦<AppendFactory<S> as BufferFactory>⟧.gives D.Device (shown I.place self)
+            self.values.codec_config dev.old dev.new (λ r. shown I.place r.0) (λ r. r.0.values.codec_config)
+            (Contains sections.now) (Contains active.now) result }
     {
         // Settled before the handle is given out: it is of a sync that has finished.
         let this = self.sync_tracked(dev, sections, active)?;

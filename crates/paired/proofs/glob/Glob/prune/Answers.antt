@@ -1,30 +1,11 @@
-use Rattle.std.proofs.Common.{arith}
-use Rattle.blob_device.specs.Timeline.{disk}
-use Rattle.blob_device.specs.lemmas.Moments.{always_now}
-use Rattle.section_manager.specs.managing.Managed.{shown}
-use Rattle.paired.proofs.CallLemmas.{none_from, prune_glob, kept_bytes, pruned_gone}
+use Rattle.std.proofs.Common.{refl}
+use Rattle.paired.specs.glob.Shown.{shown_glob}
+use Rattle.paired.proofs.GlobRemoves.{prune_failed, pruned}
 use Rattle.paired.proofs.glob.Glob.prune.Goals as goal
+use Rattle.blob_device.proofs.general.Results.{err_of}
 
-pub returns-clause-over : goal.returns-clause-over
-returns-clause-over g c =
-    let m = shown c.args.self.manager in
-    let n = shown c.in_ok-manager.manager in
-    let says = c.in_ok-manager.ensures in
-    prune_glob _ m n _ _ _ (disk (g.D.Device.time c.prune.new.dev)) c.requires.over says.over says.place.partition (none_from m n c.args.min says.removed says.kept) c.args.min says.removed says.kept
-    (λ t. always_now _ _ _ (c.prune.ensures.moments t)) says.ceiling
+pub returns-in_err-manager : goal.returns-in_err-manager
+returns-in_err-manager g c = prune_failed g.D.Device (shown_glob c.args.self) c.args.dev.now c.prune.new.dev (λ r. shown_glob r.0) (λ r. r.1) c.args.min _ _ (err_of _ _ c.from_residual.ensures.1) c.in_err-manager.ensures
 
-pub returns-clause-bytes : goal.returns-clause-bytes
-returns-clause-bytes g c =
-    let m = shown c.args.self.manager in
-    let n = shown c.in_ok-manager.manager in
-    let says = c.in_ok-manager.ensures in
-    kept_bytes _ m n _ _ _ (disk (g.D.Device.time c.prune.new.dev)) c.requires.over says.over says.place.partition (none_from m n c.args.min says.removed says.kept) c.args.min says.removed says.kept
-    (λ t. always_now _ _ _ (c.prune.ensures.moments t))
-
-pub returns-clause-gone : goal.returns-clause-gone
-returns-clause-gone g c t s below =
-    let m = shown c.args.self.manager in
-    let n = shown c.in_ok-manager.manager in
-    let says = c.in_ok-manager.ensures in
-    pruned_gone _ m n _ _ _ (disk (g.D.Device.time c.prune.new.dev)) c.requires.over says.over says.place.partition (none_from m n c.args.min says.removed says.kept) c.args.min says.removed says.kept
-    (λ t. always_now _ _ _ (c.prune.ensures.moments t)) t s (omega (arith, below, c.ranges.min.fits)) below
+pub returns : goal.returns
+returns g c = pruned g.D.Device (shown_glob c.args.self) c.args.dev.now c.prune.new.dev (λ r. shown_glob r.0) (λ r. r.1) c.args.min c.requires.over c.ranges.min.fits _ c.in_ok-manager.ensures refl

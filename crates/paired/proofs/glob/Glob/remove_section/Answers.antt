@@ -1,23 +1,11 @@
-use Rattle.std.proofs.Common.{arith, subst}
-use Rattle.std.specs.Prelude.{IsSome}
-use Rattle.blob_device.specs.Timeline.{disk}
-use Rattle.blob_device.specs.lemmas.Moments.{always_now}
-use Rattle.section_manager.specs.managing.Managed.{shown}
-use Rattle.paired.specs.lemmas.Glob.{glob_one, other_bytes}
+use Rattle.std.proofs.Common.{refl}
+use Rattle.paired.specs.glob.Shown.{shown_glob}
+use Rattle.paired.proofs.GlobRemoves.{remove_failed, section_removed}
 use Rattle.paired.proofs.glob.Glob.remove_section.Goals as goal
+use Rattle.blob_device.proofs.general.Results.{err_of}
 
-pub returns-clause-over : goal.returns-clause-over
-returns-clause-over g c =
-    let m = shown c.args.self.manager in
-    let n = shown c.in_ok-manager.manager in
-    let says = c.in_ok-manager.ensures in
-    glob_one _ m _ _ c.requires.over n _ (disk (g.D.Device.time c.remove_section.new.dev)) c.args.section says.over says.bounds says.others c.ranges.section.fits
-    (λ t. (always_now _ _ _ (c.remove_section.ensures.moments t)).others)
-    (λ u held. absurd (cc (held, says.removed)))
-    (λ t some. omega (arith, says.bounds.ceiling, c.requires.over.unopened t c.args.section (subst IsSome says.unopened some)))
+pub returns-in_err-manager : goal.returns-in_err-manager
+returns-in_err-manager g c = remove_failed g.D.Device (shown_glob c.args.self) c.args.dev.now c.remove_section.new.dev (λ r. shown_glob r.0) (λ r. r.1) c.args.section _ _ (err_of _ _ c.from_residual.ensures.1) c.in_err-manager.ensures
 
-pub returns-clause-bytes : goal.returns-clause-bytes
-returns-clause-bytes g c =
-    let says = c.in_ok-manager.ensures in
-    other_bytes _ (shown c.args.self.manager) _ _ c.requires.over (shown c.in_ok-manager.manager) _ (disk (g.D.Device.time c.remove_section.new.dev)) c.args.section says.over says.bounds says.others c.ranges.section.fits
-    (λ t. (always_now _ _ _ (c.remove_section.ensures.moments t)).others)
+pub returns : goal.returns
+returns g c = section_removed g.D.Device (shown_glob c.args.self) c.args.dev.now c.remove_section.new.dev (λ r. shown_glob r.0) (λ r. r.1) c.args.section c.requires.over c.ranges.section.fits _ c.in_ok-manager.ensures refl

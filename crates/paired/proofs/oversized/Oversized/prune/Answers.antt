@@ -64,6 +64,7 @@ returns-in_err-this g c =
     let is = err_of c.from_residual.result (raised_metadata c.in_err-this.field-0.0) c.from_residual.ensures.1 in
     let same : new.version ≡ p.store.version = ap (λ (u : Store Key8 ℕ). u.version) c.drop_below.ensures.staged in
     let e = c.in_err-this.field-0.0 in
+    let removes = λ (t : g.D.Device.Tells). markers_gone p.layout p.index.sections p.values (IsDoomed p c.args.min) (IsLost p c.args.min) (only_copies p.layout new (g.D.Device.time c.args.dev.now) (g.D.Device.time c.sync.new.dev) here (c.sync.ensures.alone t)) in
     record {
       over = no_value _ _ c.from_residual.ensures.0;
       sound = λ t sound. no_value _ _ c.from_residual.ensures.0;
@@ -87,27 +88,14 @@ returns-in_err-this g c =
           let maps = subst (λ (x : List ℕ). Mapping p.layout.markers x (contents_of p.store) (contents_of new) (g.D.Device.time c.args.dev.now) (g.D.Device.time c.sync.new.dev)) here (c.sync.ensures.crashes t (contents_of p.store) stands) in
           keeps_markers ways g.met.I.CodecFixed.fixed.at_least (g.D.Device.time c.args.dev.now) parts t sound.floor (below_or_not c.args.min) (contents_of new) (ap (λ (w : Store Key8 ℕ). w.floor) c.drop_below.ensures.staged ∙ sound.floor) (λ s n is. (c.drop_below.ensures.marked s n is).1) (λ s n lt is. omega (arith, lt, (c.drop_below.ensures.marked s n is).0)) (g.D.Device.time c.sync.new.dev) maps;
       alone = λ t none.
-          let removes = markers_gone p.layout p.index.sections p.values (IsDoomed p c.args.min) (IsLost p c.args.min) (only_copies p.layout new (g.D.Device.time c.args.dev.now) (g.D.Device.time c.sync.new.dev) here (c.sync.ensures.alone t)) in
           let idle = c.sync.ensures.idle (none_staged p.store new c.args.min c.drop_below.ensures.still c.drop_below.ensures.marked c.drop_below.ensures.dropped c.requires.over.synced (λ s m lt is. none (s, lt, (m, is)))) in
-          copies_alone ways (g.D.Device.time c.args.dev.now) (g.D.Device.time c.sync.new.dev) removes (untouched_same (IsCopy p.layout) (g.D.Device.time c.args.dev.now) (g.D.Device.time c.sync.new.dev) (ap g.D.Device.time idle.0));
-      untouched = λ t.
-          let removes = markers_gone p.layout p.index.sections p.values (IsDoomed p c.args.min) (IsLost p c.args.min) (only_copies p.layout new (g.D.Device.time c.args.dev.now) (g.D.Device.time c.sync.new.dev) here (c.sync.ensures.alone t)) in
-          prune_one p (g.D.Device.opened c.args.dev.now) (disk (g.D.Device.time c.args.dev.now)) c.requires.over refl refl c.args.min (g.D.Device.time c.args.dev.now) (g.D.Device.time c.sync.new.dev) removes;
-      newer_stays = λ t.
-          let removes = markers_gone p.layout p.index.sections p.values (IsDoomed p c.args.min) (IsLost p c.args.min) (only_copies p.layout new (g.D.Device.time c.args.dev.now) (g.D.Device.time c.sync.new.dev) here (c.sync.ensures.alone t)) in
-          copy_stays ways (g.D.Device.time c.args.dev.now) (g.D.Device.time c.sync.new.dev) removes (other_side p.store.older) (newer_stays p.layout new p.store.older (g.D.Device.time c.args.dev.now) (g.D.Device.time c.sync.new.dev) here (ap (λ (u : Store Key8 ℕ). u.older) c.drop_below.ensures.staged) (c.sync.ensures.alone t));
-      markers_first = λ t.
-          let removes = markers_gone p.layout p.index.sections p.values (IsDoomed p c.args.min) (IsLost p c.args.min) (only_copies p.layout new (g.D.Device.time c.args.dev.now) (g.D.Device.time c.sync.new.dev) here (c.sync.ensures.alone t)) in
-          markers_first ways (g.D.Device.time c.args.dev.now) (g.D.Device.time c.sync.new.dev) removes;
-      order = λ t.
-          let removes = markers_gone p.layout p.index.sections p.values (IsDoomed p c.args.min) (IsLost p c.args.min) (only_copies p.layout new (g.D.Device.time c.args.dev.now) (g.D.Device.time c.sync.new.dev) here (c.sync.ensures.alone t)) in
-          records_first ways (g.D.Device.time c.args.dev.now) (g.D.Device.time c.sync.new.dev) removes;
-      ascending = λ t.
-          let removes = markers_gone p.layout p.index.sections p.values (IsDoomed p c.args.min) (IsLost p c.args.min) (only_copies p.layout new (g.D.Device.time c.args.dev.now) (g.D.Device.time c.sync.new.dev) here (c.sync.ensures.alone t)) in
-          ascending ways (g.D.Device.time c.args.dev.now) (g.D.Device.time c.sync.new.dev) removes (λ s. IsHeld p.index.sections s × (s < c.args.min)) (λ s is. (inl is.0, is.1));
-      values_ascending = λ t.
-          let removes = markers_gone p.layout p.index.sections p.values (IsDoomed p c.args.min) (IsLost p c.args.min) (only_copies p.layout new (g.D.Device.time c.args.dev.now) (g.D.Device.time c.sync.new.dev) here (c.sync.ensures.alone t)) in
-          values_ascending ways (g.D.Device.time c.args.dev.now) (g.D.Device.time c.sync.new.dev) removes (λ s. IsHeld p.values s × (s < c.args.min)) (λ s is. (inl is.0, is.1));
+          copies_alone ways (g.D.Device.time c.args.dev.now) (g.D.Device.time c.sync.new.dev) (removes t) (untouched_same (IsCopy p.layout) (g.D.Device.time c.args.dev.now) (g.D.Device.time c.sync.new.dev) (ap g.D.Device.time idle.0));
+      untouched = λ t. prune_one p (g.D.Device.opened c.args.dev.now) (disk (g.D.Device.time c.args.dev.now)) c.requires.over refl refl c.args.min (g.D.Device.time c.args.dev.now) (g.D.Device.time c.sync.new.dev) (removes t);
+      newer_stays = λ t. copy_stays ways (g.D.Device.time c.args.dev.now) (g.D.Device.time c.sync.new.dev) (removes t) (other_side p.store.older) (newer_stays p.layout new p.store.older (g.D.Device.time c.args.dev.now) (g.D.Device.time c.sync.new.dev) here (ap (λ (u : Store Key8 ℕ). u.older) c.drop_below.ensures.staged) (c.sync.ensures.alone t));
+      markers_first = λ t. markers_first ways (g.D.Device.time c.args.dev.now) (g.D.Device.time c.sync.new.dev) (removes t);
+      order = λ t. records_first ways (g.D.Device.time c.args.dev.now) (g.D.Device.time c.sync.new.dev) (removes t);
+      ascending = λ t. ascending ways (g.D.Device.time c.args.dev.now) (g.D.Device.time c.sync.new.dev) (removes t) (λ s. IsHeld p.index.sections s × (s < c.args.min)) (λ s is. (inl is.0, is.1));
+      values_ascending = λ t. values_ascending ways (g.D.Device.time c.args.dev.now) (g.D.Device.time c.sync.new.dev) (removes t) (λ s. IsHeld p.values s × (s < c.args.min)) (λ s is. (inl is.0, is.1));
       gone = λ t. no_value _ _ c.from_residual.ensures.0;
       gone_all = λ t. no_value _ _ c.from_residual.ensures.0;
       idle = λ all.
@@ -124,9 +112,7 @@ returns-in_err-this g c =
             | inl found ↦ found
             | inr none ↦ absurd (cc (c.in_err-this.ensures.idle (none_staged p.store new c.args.min c.drop_below.ensures.still c.drop_below.ensures.marked c.drop_below.ensures.dropped c.requires.over.synced none)).1)
           ];
-      lost_first = λ t lost q is.
-          let removes = markers_gone p.layout p.index.sections p.values (IsDoomed p c.args.min) (IsLost p c.args.min) (only_copies p.layout new (g.D.Device.time c.args.dev.now) (g.D.Device.time c.sync.new.dev) here (c.sync.ensures.alone t)) in
-          sections_wait ways (g.D.Device.time c.args.dev.now) (g.D.Device.time c.sync.new.dev) removes q is;
+      lost_first = λ t lost q is. sections_wait ways (g.D.Device.time c.args.dev.now) (g.D.Device.time c.sync.new.dev) (removes t) q is;
       fault = λ t has. absurd (markers_apart c.from_residual.result e (err_of c.from_residual.result (raised_metadata e) c.from_residual.ensures.1) has);
       faults = c.sync.ensures.faults;
       cause = search rules;
@@ -141,6 +127,7 @@ returns-in_err-index g c =
     let u = (tracked.shown c.in_ok-this.field-0).store in
     let u_here : u.partition ≡ p.layout.metadata = ap (λ (w : Store Key8 ℕ). w.partition) c.in_ok-this.ensures.same ∙ synced_partition new ∙ here in
     let failed = err_of c.from_residual-in_err-index.result c.in_err-index.field-0.0 c.from_residual-in_err-index.ensures.1 in
+    let removes = λ (t : g.D.Device.Tells). records_gone p.layout p.values (IsLost p c.args.min) (only_copies p.layout new (g.D.Device.time c.args.dev.now) (g.D.Device.time c.sync.new.dev) here (c.sync.ensures.alone t)) (c.prune.ensures.moments t) in
     record {
       over = no_value _ _ c.from_residual-in_err-index.ensures.0;
       sound = λ t sound. no_value _ _ c.from_residual-in_err-index.ensures.0;
@@ -165,27 +152,14 @@ returns-in_err-index g c =
           let settled = settled_keeps p.layout (tracked.shown c.in_ok-this.field-0).store (contents_of new) (disk (g.D.Device.time c.sync.new.dev)) (ap (λ (u : Store Key8 ℕ). u.partition) c.in_ok-this.ensures.same ∙ synced_partition new ∙ here) (c.in_ok-this.ensures.stands t (contents_of p.store) stands) in
           keeps_records ways g.met.I.CodecFixed.fixed.at_least (g.D.Device.time c.args.dev.now) parts t sound.floor (below_or_not c.args.min) (contents_of new) (ap (λ (w : Store Key8 ℕ). w.floor) c.drop_below.ensures.staged ∙ sound.floor) (λ s n is. (c.drop_below.ensures.marked s n is).1) (λ s n lt is. omega (arith, lt, (c.drop_below.ensures.marked s n is).0)) (g.D.Device.time c.sync.new.dev) maps settled (λ s is. known_held p (g.D.Device.opened c.args.dev.now) (disk (g.D.Device.time c.args.dev.now)) c.requires.over refl refl s is.0) (λ s lt held. (inl held, lt)) (g.D.Device.time c.prune.new.dev) (c.prune.ensures.moments t);
       alone = λ t none.
-          let removes = records_gone p.layout p.values (IsLost p c.args.min) (only_copies p.layout new (g.D.Device.time c.args.dev.now) (g.D.Device.time c.sync.new.dev) here (c.sync.ensures.alone t)) (c.prune.ensures.moments t) in
           let idle = c.sync.ensures.idle (none_staged p.store new c.args.min c.drop_below.ensures.still c.drop_below.ensures.marked c.drop_below.ensures.dropped c.requires.over.synced (λ s m lt is. none (s, lt, (m, is)))) in
-          copies_alone ways (g.D.Device.time c.args.dev.now) (g.D.Device.time c.prune.new.dev) removes (untouched_same (IsCopy p.layout) (g.D.Device.time c.args.dev.now) (g.D.Device.time c.sync.new.dev) (ap g.D.Device.time idle.0));
-      untouched = λ t.
-          let removes = records_gone p.layout p.values (IsLost p c.args.min) (only_copies p.layout new (g.D.Device.time c.args.dev.now) (g.D.Device.time c.sync.new.dev) here (c.sync.ensures.alone t)) (c.prune.ensures.moments t) in
-          prune_one p (g.D.Device.opened c.args.dev.now) (disk (g.D.Device.time c.args.dev.now)) c.requires.over refl refl c.args.min (g.D.Device.time c.args.dev.now) (g.D.Device.time c.prune.new.dev) removes;
-      newer_stays = λ t.
-          let removes = records_gone p.layout p.values (IsLost p c.args.min) (only_copies p.layout new (g.D.Device.time c.args.dev.now) (g.D.Device.time c.sync.new.dev) here (c.sync.ensures.alone t)) (c.prune.ensures.moments t) in
-          copy_stays ways (g.D.Device.time c.args.dev.now) (g.D.Device.time c.prune.new.dev) removes (other_side p.store.older) (newer_stays p.layout new p.store.older (g.D.Device.time c.args.dev.now) (g.D.Device.time c.sync.new.dev) here (ap (λ (u : Store Key8 ℕ). u.older) c.drop_below.ensures.staged) (c.sync.ensures.alone t));
-      markers_first = λ t.
-          let removes = records_gone p.layout p.values (IsLost p c.args.min) (only_copies p.layout new (g.D.Device.time c.args.dev.now) (g.D.Device.time c.sync.new.dev) here (c.sync.ensures.alone t)) (c.prune.ensures.moments t) in
-          markers_first ways (g.D.Device.time c.args.dev.now) (g.D.Device.time c.prune.new.dev) removes;
-      order = λ t.
-          let removes = records_gone p.layout p.values (IsLost p c.args.min) (only_copies p.layout new (g.D.Device.time c.args.dev.now) (g.D.Device.time c.sync.new.dev) here (c.sync.ensures.alone t)) (c.prune.ensures.moments t) in
-          records_first ways (g.D.Device.time c.args.dev.now) (g.D.Device.time c.prune.new.dev) removes;
-      ascending = λ t.
-          let removes = records_gone p.layout p.values (IsLost p c.args.min) (only_copies p.layout new (g.D.Device.time c.args.dev.now) (g.D.Device.time c.sync.new.dev) here (c.sync.ensures.alone t)) (c.prune.ensures.moments t) in
-          ascending ways (g.D.Device.time c.args.dev.now) (g.D.Device.time c.prune.new.dev) removes (λ s. IsHeld p.index.sections s × (s < c.args.min)) (λ s is. (inl is.0, is.1));
-      values_ascending = λ t.
-          let removes = records_gone p.layout p.values (IsLost p c.args.min) (only_copies p.layout new (g.D.Device.time c.args.dev.now) (g.D.Device.time c.sync.new.dev) here (c.sync.ensures.alone t)) (c.prune.ensures.moments t) in
-          values_ascending ways (g.D.Device.time c.args.dev.now) (g.D.Device.time c.prune.new.dev) removes (λ s. IsHeld p.values s × (s < c.args.min)) (λ s is. (inl is.0, is.1));
+          copies_alone ways (g.D.Device.time c.args.dev.now) (g.D.Device.time c.prune.new.dev) (removes t) (untouched_same (IsCopy p.layout) (g.D.Device.time c.args.dev.now) (g.D.Device.time c.sync.new.dev) (ap g.D.Device.time idle.0));
+      untouched = λ t. prune_one p (g.D.Device.opened c.args.dev.now) (disk (g.D.Device.time c.args.dev.now)) c.requires.over refl refl c.args.min (g.D.Device.time c.args.dev.now) (g.D.Device.time c.prune.new.dev) (removes t);
+      newer_stays = λ t. copy_stays ways (g.D.Device.time c.args.dev.now) (g.D.Device.time c.prune.new.dev) (removes t) (other_side p.store.older) (newer_stays p.layout new p.store.older (g.D.Device.time c.args.dev.now) (g.D.Device.time c.sync.new.dev) here (ap (λ (u : Store Key8 ℕ). u.older) c.drop_below.ensures.staged) (c.sync.ensures.alone t));
+      markers_first = λ t. markers_first ways (g.D.Device.time c.args.dev.now) (g.D.Device.time c.prune.new.dev) (removes t);
+      order = λ t. records_first ways (g.D.Device.time c.args.dev.now) (g.D.Device.time c.prune.new.dev) (removes t);
+      ascending = λ t. ascending ways (g.D.Device.time c.args.dev.now) (g.D.Device.time c.prune.new.dev) (removes t) (λ s. IsHeld p.index.sections s × (s < c.args.min)) (λ s is. (inl is.0, is.1));
+      values_ascending = λ t. values_ascending ways (g.D.Device.time c.args.dev.now) (g.D.Device.time c.prune.new.dev) (removes t) (λ s. IsHeld p.values s × (s < c.args.min)) (λ s is. (inl is.0, is.1));
       gone = λ t. no_value _ _ c.from_residual-in_err-index.ensures.0;
       gone_all = λ t. no_value _ _ c.from_residual-in_err-index.ensures.0;
       idle = λ all.
@@ -198,8 +172,7 @@ returns-in_err-index g c =
       lost = λ lost. absurd (failed_lost c.from_residual-in_err-index.result c.in_err-index.field-0.0 (g.D.Device.faults c.args.dev.now) (g.D.Device.faults c.sync.new.dev) (g.D.Device.faults c.prune.new.dev) failed c.in_err-index.ensures.cause lost);
       lost_first = λ t lost. absurd (failed_lost c.from_residual-in_err-index.result c.in_err-index.field-0.0 (g.D.Device.faults c.args.dev.now) (g.D.Device.faults c.sync.new.dev) (g.D.Device.faults c.prune.new.dev) failed c.in_err-index.ensures.cause lost);
       fault = λ t is.
-          let removes = records_gone p.layout p.values (IsLost p c.args.min) (only_copies p.layout new (g.D.Device.time c.args.dev.now) (g.D.Device.time c.sync.new.dev) here (c.sync.ensures.alone t)) (c.prune.ensures.moments t) in
-          dropped_still p c.args.min u (contents_of new) (disk (g.D.Device.time c.sync.new.dev)) (disk (g.D.Device.time c.prune.new.dev)) u_here c.in_ok-this.ensures.contents (copies_last ways (g.D.Device.time c.args.dev.now) (g.D.Device.time c.prune.new.dev) removes)
+          dropped_still p c.args.min u (contents_of new) (disk (g.D.Device.time c.sync.new.dev)) (disk (g.D.Device.time c.prune.new.dev)) u_here c.in_ok-this.ensures.contents (copies_last ways (g.D.Device.time c.args.dev.now) (g.D.Device.time c.prune.new.dev) (removes t))
           (c.in_ok-this.ensures.stands t (contents_of p.store) (c.drop_below.ensures.stands (contents_of p.store) (disk (g.D.Device.time c.args.dev.now)) (c.requires.over.disk t).markers)) c.drop_below.ensures.marked (λ s from. (c.drop_below.ensures.above s from).1) (ap (λ (w : Store Key8 ℕ). w.floor) c.drop_below.ensures.staged);
       faults = omega (arith, c.sync.ensures.faults, c.prune.ensures.faults);
       cause = failed_cause c.from_residual-in_err-index.result c.in_err-index.field-0.0 (g.D.Device.faults c.args.dev.now) (g.D.Device.faults c.sync.new.dev) (g.D.Device.faults c.prune.new.dev) failed c.in_err-index.ensures.cause (omega (arith, c.sync.ensures.faults));
@@ -214,6 +187,7 @@ returns-in_err-values g c =
     let u = (tracked.shown c.in_ok-this.field-0).store in
     let u_here : u.partition ≡ p.layout.metadata = ap (λ (w : Store Key8 ℕ). w.partition) c.in_ok-this.ensures.same ∙ synced_partition new ∙ here in
     let failed = err_of c.from_residual-in_err-values.result c.in_err-values.field-0.0 c.from_residual-in_err-values.ensures.1 in
+    let removes = λ (t : g.D.Device.Tells). values_gone p.layout (only_copies p.layout new (g.D.Device.time c.args.dev.now) (g.D.Device.time c.sync.new.dev) here (c.sync.ensures.alone t)) (c.prune.ensures.moments t) (c.prune-2.ensures.moments t) in
     record {
       over = no_value _ _ c.from_residual-in_err-values.ensures.0;
       sound = λ t sound. no_value _ _ c.from_residual-in_err-values.ensures.0;
@@ -238,27 +212,14 @@ returns-in_err-values g c =
           let settled = settled_keeps p.layout (tracked.shown c.in_ok-this.field-0).store (contents_of new) (disk (g.D.Device.time c.sync.new.dev)) (ap (λ (u : Store Key8 ℕ). u.partition) c.in_ok-this.ensures.same ∙ synced_partition new ∙ here) (c.in_ok-this.ensures.stands t (contents_of p.store) stands) in
           keeps_values ways g.met.I.CodecFixed.fixed.at_least (g.D.Device.time c.args.dev.now) parts t sound.floor (below_or_not c.args.min) (contents_of new) (ap (λ (w : Store Key8 ℕ). w.floor) c.drop_below.ensures.staged ∙ sound.floor) (λ s n is. (c.drop_below.ensures.marked s n is).1) (λ s n lt is. omega (arith, lt, (c.drop_below.ensures.marked s n is).0)) (g.D.Device.time c.sync.new.dev) maps settled (λ s is. known_held p (g.D.Device.opened c.args.dev.now) (disk (g.D.Device.time c.args.dev.now)) c.requires.over refl refl s is.0) (λ s lt held. (inl held, lt)) (g.D.Device.time c.prune.new.dev) (c.prune.ensures.moments t) (g.D.Device.time c.prune-2.new.dev) (c.prune-2.ensures.moments t) (λ s lt held. c.in_ok-index.ensures.gone t s (inl held) lt);
       alone = λ t none.
-          let removes = values_gone p.layout (only_copies p.layout new (g.D.Device.time c.args.dev.now) (g.D.Device.time c.sync.new.dev) here (c.sync.ensures.alone t)) (c.prune.ensures.moments t) (c.prune-2.ensures.moments t) in
           let idle = c.sync.ensures.idle (none_staged p.store new c.args.min c.drop_below.ensures.still c.drop_below.ensures.marked c.drop_below.ensures.dropped c.requires.over.synced (λ s m lt is. none (s, lt, (m, is)))) in
-          copies_alone ways (g.D.Device.time c.args.dev.now) (g.D.Device.time c.prune-2.new.dev) removes (untouched_same (IsCopy p.layout) (g.D.Device.time c.args.dev.now) (g.D.Device.time c.sync.new.dev) (ap g.D.Device.time idle.0));
-      untouched = λ t.
-          let removes = values_gone p.layout (only_copies p.layout new (g.D.Device.time c.args.dev.now) (g.D.Device.time c.sync.new.dev) here (c.sync.ensures.alone t)) (c.prune.ensures.moments t) (c.prune-2.ensures.moments t) in
-          prune_one p (g.D.Device.opened c.args.dev.now) (disk (g.D.Device.time c.args.dev.now)) c.requires.over refl refl c.args.min (g.D.Device.time c.args.dev.now) (g.D.Device.time c.prune-2.new.dev) removes;
-      newer_stays = λ t.
-          let removes = values_gone p.layout (only_copies p.layout new (g.D.Device.time c.args.dev.now) (g.D.Device.time c.sync.new.dev) here (c.sync.ensures.alone t)) (c.prune.ensures.moments t) (c.prune-2.ensures.moments t) in
-          copy_stays ways (g.D.Device.time c.args.dev.now) (g.D.Device.time c.prune-2.new.dev) removes (other_side p.store.older) (newer_stays p.layout new p.store.older (g.D.Device.time c.args.dev.now) (g.D.Device.time c.sync.new.dev) here (ap (λ (u : Store Key8 ℕ). u.older) c.drop_below.ensures.staged) (c.sync.ensures.alone t));
-      markers_first = λ t.
-          let removes = values_gone p.layout (only_copies p.layout new (g.D.Device.time c.args.dev.now) (g.D.Device.time c.sync.new.dev) here (c.sync.ensures.alone t)) (c.prune.ensures.moments t) (c.prune-2.ensures.moments t) in
-          markers_first ways (g.D.Device.time c.args.dev.now) (g.D.Device.time c.prune-2.new.dev) removes;
-      order = λ t.
-          let removes = values_gone p.layout (only_copies p.layout new (g.D.Device.time c.args.dev.now) (g.D.Device.time c.sync.new.dev) here (c.sync.ensures.alone t)) (c.prune.ensures.moments t) (c.prune-2.ensures.moments t) in
-          records_first ways (g.D.Device.time c.args.dev.now) (g.D.Device.time c.prune-2.new.dev) removes;
-      ascending = λ t.
-          let removes = values_gone p.layout (only_copies p.layout new (g.D.Device.time c.args.dev.now) (g.D.Device.time c.sync.new.dev) here (c.sync.ensures.alone t)) (c.prune.ensures.moments t) (c.prune-2.ensures.moments t) in
-          ascending ways (g.D.Device.time c.args.dev.now) (g.D.Device.time c.prune-2.new.dev) removes (λ s. IsHeld p.index.sections s × (s < c.args.min)) (λ s is. (inl is.0, is.1));
-      values_ascending = λ t.
-          let removes = values_gone p.layout (only_copies p.layout new (g.D.Device.time c.args.dev.now) (g.D.Device.time c.sync.new.dev) here (c.sync.ensures.alone t)) (c.prune.ensures.moments t) (c.prune-2.ensures.moments t) in
-          values_ascending ways (g.D.Device.time c.args.dev.now) (g.D.Device.time c.prune-2.new.dev) removes (λ s. IsHeld p.values s × (s < c.args.min)) (λ s is. (inl is.0, is.1));
+          copies_alone ways (g.D.Device.time c.args.dev.now) (g.D.Device.time c.prune-2.new.dev) (removes t) (untouched_same (IsCopy p.layout) (g.D.Device.time c.args.dev.now) (g.D.Device.time c.sync.new.dev) (ap g.D.Device.time idle.0));
+      untouched = λ t. prune_one p (g.D.Device.opened c.args.dev.now) (disk (g.D.Device.time c.args.dev.now)) c.requires.over refl refl c.args.min (g.D.Device.time c.args.dev.now) (g.D.Device.time c.prune-2.new.dev) (removes t);
+      newer_stays = λ t. copy_stays ways (g.D.Device.time c.args.dev.now) (g.D.Device.time c.prune-2.new.dev) (removes t) (other_side p.store.older) (newer_stays p.layout new p.store.older (g.D.Device.time c.args.dev.now) (g.D.Device.time c.sync.new.dev) here (ap (λ (u : Store Key8 ℕ). u.older) c.drop_below.ensures.staged) (c.sync.ensures.alone t));
+      markers_first = λ t. markers_first ways (g.D.Device.time c.args.dev.now) (g.D.Device.time c.prune-2.new.dev) (removes t);
+      order = λ t. records_first ways (g.D.Device.time c.args.dev.now) (g.D.Device.time c.prune-2.new.dev) (removes t);
+      ascending = λ t. ascending ways (g.D.Device.time c.args.dev.now) (g.D.Device.time c.prune-2.new.dev) (removes t) (λ s. IsHeld p.index.sections s × (s < c.args.min)) (λ s is. (inl is.0, is.1));
+      values_ascending = λ t. values_ascending ways (g.D.Device.time c.args.dev.now) (g.D.Device.time c.prune-2.new.dev) (removes t) (λ s. IsHeld p.values s × (s < c.args.min)) (λ s is. (inl is.0, is.1));
       gone = λ t. no_value _ _ c.from_residual-in_err-values.ensures.0;
       gone_all = λ t. no_value _ _ c.from_residual-in_err-values.ensures.0;
       idle = λ all.
@@ -271,8 +232,7 @@ returns-in_err-values g c =
       lost = λ lost. absurd (failed_lost c.from_residual-in_err-values.result c.in_err-values.field-0.0 (g.D.Device.faults c.args.dev.now) (g.D.Device.faults c.prune.new.dev) (g.D.Device.faults c.prune-2.new.dev) failed c.in_err-values.ensures.cause lost);
       lost_first = λ t lost. absurd (failed_lost c.from_residual-in_err-values.result c.in_err-values.field-0.0 (g.D.Device.faults c.args.dev.now) (g.D.Device.faults c.prune.new.dev) (g.D.Device.faults c.prune-2.new.dev) failed c.in_err-values.ensures.cause lost);
       fault = λ t is.
-          let removes = values_gone p.layout (only_copies p.layout new (g.D.Device.time c.args.dev.now) (g.D.Device.time c.sync.new.dev) here (c.sync.ensures.alone t)) (c.prune.ensures.moments t) (c.prune-2.ensures.moments t) in
-          dropped_still p c.args.min u (contents_of new) (disk (g.D.Device.time c.sync.new.dev)) (disk (g.D.Device.time c.prune-2.new.dev)) u_here c.in_ok-this.ensures.contents (copies_last ways (g.D.Device.time c.args.dev.now) (g.D.Device.time c.prune-2.new.dev) removes)
+          dropped_still p c.args.min u (contents_of new) (disk (g.D.Device.time c.sync.new.dev)) (disk (g.D.Device.time c.prune-2.new.dev)) u_here c.in_ok-this.ensures.contents (copies_last ways (g.D.Device.time c.args.dev.now) (g.D.Device.time c.prune-2.new.dev) (removes t))
           (c.in_ok-this.ensures.stands t (contents_of p.store) (c.drop_below.ensures.stands (contents_of p.store) (disk (g.D.Device.time c.args.dev.now)) (c.requires.over.disk t).markers)) c.drop_below.ensures.marked (λ s from. (c.drop_below.ensures.above s from).1) (ap (λ (w : Store Key8 ℕ). w.floor) c.drop_below.ensures.staged);
       faults = omega (arith, c.sync.ensures.faults, c.prune.ensures.faults, c.prune-2.ensures.faults);
       cause = failed_cause c.from_residual-in_err-values.result c.in_err-values.field-0.0 (g.D.Device.faults c.args.dev.now) (g.D.Device.faults c.prune.new.dev) (g.D.Device.faults c.prune-2.new.dev) failed c.in_err-values.ensures.cause (omega (arith, c.sync.ensures.faults, c.prune.ensures.faults));
