@@ -230,7 +230,7 @@ five_in_order a b c d e = sym (append_assoc (a ++ b ++ c) d e ∙ append_assoc (
 in_order : (a b c d e f : List ℕ) → a ++ (b ++ (c ++ (d ++ (e ++ f)))) ≡ a ++ b ++ c ++ d ++ e ++ f
 in_order a b c d e f = five_in_order a b c d (e ++ f) ∙ sym (append_assoc (a ++ b ++ c ++ d) e f)
 
--- its prefix, in two pieces
+-- the text in order, where its first pieces were joined before
 pub prefix_is : (a b c d e f first g h i j text : List ℕ) → first ≡ a ++ (b ++ (c ++ (d ++ (e ++ f)))) → text ≡ first ++ (g ++ (h ++ (i ++ j)))
     → text ≡ a ++ b ++ c ++ d ++ e ++ f ++ g ++ h ++ i ++ j
 prefix_is a b c d e f first g h i j text is_first is = is ∙ five_in_order first g h i j ∙ ap (λ l. l ++ g ++ h ++ i ++ j) (is_first ∙ in_order a b c d e f)
