@@ -95,8 +95,6 @@ whole_script n puts synced opened gets tests ranges first all is_puts is_synced 
     is_all ∙ ap (λ l. l ++ Last ∷ []) (is_first ∙ ap (λ l. l ++ First ∷ []) is_ranges ∙ append_assoc tests (Ranges ∷ []) (First ∷ [])) ∙ append_assoc tests (Ranges ∷ First ∷ []) (Last ∷ []) in
     three ∙ ap (λ l. l ++ Ranges ∷ First ∷ Last ∷ []) (is_tests ∙ ap (λ l. l ++ Ts) (is_gets ∙ ap (λ l. l ++ Gs) two))
 
--- ---- each of its commands can be said
-
 -- ---- its replies
 
 -- the first of the indices with one more, and the last

@@ -1,4 +1,4 @@
--- The end of an opening by markers: which records stand, and that what it cuts, removes and writes leaves each crash with the same lists.
+-- The end of an opening by markers: which records stand, and when an image keeps the same lists as an older one.
 use Rattle.std.specs.Prelude.{◌≡◌, ◌⊎◌, ℕ, zero, suc, ◌+◌, ◌-◌, ◌^◌, ◌<◌, ◌≤◌, ◌||◌, nat_lt, if◌then◌else◌, Bool, true, false, List, [], ◌∷◌, length, map, take, get_or, IsTrue, IsSome, Option, unwrap_or}
 use Rattle.std.proofs.Common.{inl, inr, refl, sym, ◌∙◌, ap, subst, arith, length-take, length-take-le}
 use Rattle.std.specs.Int.{w64, to_be_bytes}

@@ -1,4 +1,4 @@
--- The three steps of a cut inside a page, one after the other.
+-- A slot is not the other one, and what has settled at a content has settled.
 use Rattle.std.proofs.Common.{◌≡◌, ◌≢◌, ℕ, not, Bool, true, false, List, sym, ◌∙◌, ap}
 use Rattle.blob_device.specs.Disk.{Blob, settled_at}
 use Rattle.sealed_pages.specs.Cutting.{StandsSettled}

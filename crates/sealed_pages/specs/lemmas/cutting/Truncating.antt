@@ -1,4 +1,4 @@
--- A buffer that is cut: what it holds before and after.
+-- A buffer whose bytes have all settled: they are the blob's sealed prefix.
 use Rattle.std.proofs.Common.{◌≡◌, inl, inr, ℕ, ◌+◌, ◌*◌, ◌<◌, ◌≤◌, ◌||◌, List, length, sym, ◌∙◌, ap, subst, arith}
 use Rattle.std.proofs.lemmas.Bool.{cases_Bool}
 use Rattle.blob_device.specs.Disk.{Blob}
