@@ -1,4 +1,4 @@
--- What a crash leaves while a record is appended.
+-- What stands while a record is appended, and what a crash leaves of it.
 use Rattle.std.proofs.Common.{◌≡◌, ℕ, ◌+◌, ◌-◌, ◌<◌, ◌^◌, ◌≢◌, ◌≤◌, List, [], ◌++◌, length, sym, ◌∙◌, ap, subst, arith, cond, Bool, Ok}
 use Rattle.blob_device.specs.Disk.{Key, Blob, Disk, settled_at}
 use Rattle.blob_device.specs.Change.{Make, Write, Settle, written}

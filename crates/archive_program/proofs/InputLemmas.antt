@@ -8,7 +8,7 @@ use Rattle.archive_program.specs.Input.{IsInputCause, ReadsInput, TakesAll, Take
 use Rattle.archive_program.specs.Taking.{TakesPrefix}
 
 module _ (start old new so_far bytes : List ℕ) (kept : start ≡ so_far ++ old) where
-  -- the bytes so far, with the piece, are the prefix of the input
+  -- the bytes so far, with the piece, are a prefix of the input
   pub taken_more : (result : Result Bool InputError) (more : Bool) → result ≡ Ok more → TakesPiece result old new so_far bytes → start ≡ bytes ++ new
   taken_more (Ok b) more is took = kept ∙ ap (λ back. so_far ++ back) took.rest ∙ sym (append_assoc so_far took.piece new) ∙ ap (λ prefix. prefix ++ new) (sym took.added)
   taken_more (Err e) more is took = cc

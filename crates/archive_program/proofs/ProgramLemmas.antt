@@ -47,7 +47,7 @@ not_listed [] n unlike (k, lt, is) = omega (arith, lt)
 not_listed (x ∷ xs) n unlike (zero, lt, is) = unlike.0 is
 not_listed (x ∷ xs) n unlike (suc k, lt, is) = not_listed xs n unlike.1 (k, omega (arith, lt), is)
 
--- more of the text is a prefix of it too
+-- what was written of a part of the text is a part of the text too
 longer_prefix : (wanted text rest old new : List ℕ) → wanted ≡ text ++ rest → InPart text old new → InPart wanted old new
 longer_prefix wanted text rest old new is part = record {
   prefix = part.prefix;

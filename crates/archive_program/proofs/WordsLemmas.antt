@@ -1,4 +1,4 @@
--- The words of a call, and the job that they ask for.
+-- The words of a call, and the one job that they ask for.
 use Rattle.std.specs.Prelude.{◌==◌, IfNone, IfSome, Option}
 use Rattle.std.proofs.Common.{◌≡◌, ◌≢◌, ℕ, Bool, true, false, not, ◌^◌, ◌<◌, ◌≤◌, List, [], ◌∷◌, length, map, get_or, Some, None, codes, refl, sym, ap, subst, ◌∙◌, arith}
 use Rattle.std.specs.Str.{bytes_eq}
@@ -134,5 +134,3 @@ one_job words (Make m count) (Make n number) one other =
 pub may_be_done : (words : List (List ℕ)) (job : Job) → AsksFor words job → MayBeDone job
 may_be_done words (Script items) asks = asks.are_items.number.some
 may_be_done words (Make items count) asks = asks.words_for.are_items.number.some
-
--- ---- the status of a call, by its words

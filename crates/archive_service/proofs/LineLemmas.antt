@@ -1,4 +1,4 @@
--- A line says one command at most: its words can be read back.
+-- How a line is read: it is cut into words, and its first word names the command.
 use Rattle.std.proofs.Common.{◌≡◌, ◌≢◌, ℕ, true, ◌↔◌, inl, inr, List, [], ◌∷◌, ◌++◌, length, Option, Some, None, Result, Ok, Err, codes, refl, sym, ap, ◌∙◌, subst, lit<, arith}
 use Rattle.std.specs.Prelude.{IfOk, IfSome, IfNone}
 use Rattle.std.specs.List.{AllByRecursion, join_with_byte}
@@ -79,8 +79,6 @@ long_said max (Multi index key value) said = said
 long_said max (MultiSync index key value) said = said
 long_said max (MultiStart index key value) said = said
 long_said max command said = absurd said
-
--- ---- words that are read back
 
 -- ---- one word
 

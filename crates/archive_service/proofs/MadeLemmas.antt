@@ -95,8 +95,6 @@ whole_script n puts synced opened gets tests ranges first all is_puts is_synced 
     is_all ∙ ap (λ l. l ++ Last ∷ []) (is_first ∙ ap (λ l. l ++ First ∷ []) is_ranges ∙ append_assoc tests (Ranges ∷ []) (First ∷ [])) ∙ append_assoc tests (Ranges ∷ First ∷ []) (Last ∷ []) in
     three ∙ ap (λ l. l ++ Ranges ∷ First ∷ Last ∷ []) (is_tests ∙ ap (λ l. l ++ Ts) (is_gets ∙ ap (λ l. l ++ Gs) two))
 
--- ---- each of its commands can be said
-
 -- ---- its replies
 
 -- the first of the indices with one more, and the last
@@ -230,7 +228,7 @@ five_in_order a b c d e = sym (append_assoc (a ++ b ++ c) d e ∙ append_assoc (
 in_order : (a b c d e f : List ℕ) → a ++ (b ++ (c ++ (d ++ (e ++ f)))) ≡ a ++ b ++ c ++ d ++ e ++ f
 in_order a b c d e f = five_in_order a b c d (e ++ f) ∙ sym (append_assoc (a ++ b ++ c ++ d) e f)
 
--- its prefix, in two pieces
+-- the text in order, where its first pieces were joined before
 pub prefix_is : (a b c d e f first g h i j text : List ℕ) → first ≡ a ++ (b ++ (c ++ (d ++ (e ++ f)))) → text ≡ first ++ (g ++ (h ++ (i ++ j)))
     → text ≡ a ++ b ++ c ++ d ++ e ++ f ++ g ++ h ++ i ++ j
 prefix_is a b c d e f first g h i j text is_first is = is ∙ five_in_order first g h i j ∙ ap (λ l. l ++ g ++ h ++ i ++ j) (is_first ∙ in_order a b c d e f)

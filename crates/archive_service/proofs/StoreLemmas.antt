@@ -1,4 +1,4 @@
--- What an archive says of itself, in the terms of a store that serves commands.
+-- How the results of an archive's calls are seen as those of a store, and which commands are refused.
 use Rattle.std.proofs.Common.{◌≡◌, ◌⊎◌, inl, inr, refl, sym, ◌∙◌, ap, subst, ℕ, ◌*◌, ◌&&◌, not, Bool, true, false, List, [], length, take, Option, Result, Ok, Err, arith}
 use Rattle.blob_device.specs.Disk.{Disk}
 use Rattle.blob_device.specs.Timeline.{Timeline, disk}
@@ -57,8 +57,6 @@ pub seen_first : {R Q P A : Type 0} (see : Q → P) (made : R → Q) (first : R 
 seen_first see made first again (Ok r) outer is same = ap (outcome see) is ∙ ap (λ x. Ok x) (same r)
 seen_first see made first again (Err e) outer is same = ap (outcome see) is
 
--- ---- puts
-
 -- ---- quiet commands
 
 -- of an open archive a command is quiet only where it is so of open ones
@@ -102,8 +100,6 @@ adds_where false here is = (refl, is)
 pub adds_not : (taken here : Bool) → (not taken && here) ≡ false → here ≡ true → taken ≡ true
 adds_not true here is at = refl
 adds_not false here is at = absurd (cc (is, at))
-
--- ---- an archive that may be used
 
 -- ---- the archive of a configuration
 

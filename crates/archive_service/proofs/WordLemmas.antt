@@ -1,4 +1,4 @@
--- What the words of scripts are made of, and how they are read.
+-- How the words of scripts are read: numbers, keys and values, each from one text.
 use Rattle.std.proofs.Common.{◌≡◌, ◌≢◌, ℕ, zero, suc, Bool, true, false, ◌&&◌, ◌||◌, cond, ◌+◌, ◌*◌, ◌/◌, ◌%◌, ◌<◌, ◌≤◌, ◌^◌, inl, inr, List, [], ◌∷◌, ◌++◌, length, take, drop, get_or, slice_index, Option, Some, None, Result, Ok, Err, codes, IsSome, not, unwrap_or, refl, sym, ap, ◌∙◌, subst, lit<, rules, arith}
 use Rattle.std.specs.Prelude.{nat_lt, nat_eq, IfSome, IsOk, MatchResult, ◌↔◌}
 use Rattle.std.specs.List.{AllByRecursion, position, position_from}
@@ -36,7 +36,7 @@ other_word {name} {word} {tested} is e same =
     let yes = (bytes_eq-Decides name tested).1 (same ∙ sym is) in
     cc
 
--- nor is a text cut elsewhere than at its one such byte
+-- a text is cut nowhere else than at its one such byte
 pub cut_alone : (c : ℕ) (a b x y : List ℕ) → Lacks c a → Lacks c b → x ++ c ∷ y ≡ a ++ c ∷ b → (x ≡ a) × (y ≡ b)
 cut_alone c [] b [] y ha hb e = (refl, cc)
 cut_alone c (a ∷ more) b [] y ha hb e = absurd (ha.0 (cc))
@@ -48,8 +48,6 @@ cut_alone c (a ∷ more) b (x ∷ xs) y ha hb e =
     let rest : xs ++ c ∷ y ≡ more ++ c ∷ b = cc in
     let parts = cut_alone c more b xs y ha.1 hb rest in
     (cc (head, parts.0), parts.1)
-
--- ---- numbers
 
 -- ---- hexadecimal
 

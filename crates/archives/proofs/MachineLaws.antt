@@ -1,6 +1,5 @@
--- What each step of the machine does to a section, and what it therefore keeps: no section has more records synced than it
--- has, each record lies in the section of its index, nothing lies below the floor, and what is synced outlasts all but a
--- prune and a destroy.
+-- What each step of the machine makes of a section's list: each record lies in the section of its index, and nothing lies
+-- below the floor. So it is after a run.
 use Rattle.std.proofs.Common.{◌≡◌, inl, inr, refl, sym, ◌∙◌, ap, subst, ℕ, zero, suc, ◌+◌, ◌*◌, ◌/◌, ◌<◌, ◌≤◌, true, false, ◌==◌, nat_lt, if◌then◌else◌, List, [], ◌∷◌, ◌++◌, length, take, Some, Contains, IsTrue, ◌↔◌, drop, arith, take-append-drop}
 use Rattle.std.proofs.lemmas.Nat.{div-add-mod', div-mul-add, le-div}
 use Rattle.std.proofs.lemmas.Bool.{eqb-true, eq-eqb}
@@ -31,8 +30,6 @@ IsFiled {V} items st = (s : ℕ) (r : Entry V) → Contains (st.lists s) r → s
 pub record IsCleared {V : Type 0} (items : ℕ) (st : State V) : Type 0 where
   pub start : section_of items st.floor ≡ st.floor
   pub below : (s : ℕ) → s < st.floor → st.lists s ≡ []
-
--- ---- what a step makes of a state
 
 -- ---- a section's list
 
@@ -83,8 +80,6 @@ still_filed items old command new s (is_cut by e at) filed r is =
     let n = length (new.lists s) in
     filed r (subst (λ xs. Contains xs r) (take-append-drop n (old.lists s)) (Contains-append_left (take n (old.lists s)) (drop n (old.lists s)) r (subst (λ xs. Contains xs r) e is)))
 still_filed items old command new s (is_emptied by e) filed r is = absurd (in_none r (subst (λ xs. Contains xs r) e is))
-
--- ---- what is synced
 
 -- ---- the section of a record
 

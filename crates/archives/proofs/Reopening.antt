@@ -77,5 +77,3 @@ module _ (f : Filing) (image : Image) (st : State (List ℕ)) where
 pub start_leaves : (f : Filing) (d : Disk) (markers : Markers) (st : State (List ℕ)) → NothingPending d → Lawful f (as_read d) markers → IsStart f (as_read d) markers st → Leaves f st None d
 start_leaves f d markers st settled lawful start image crash no_chance =
     subst (StandsFor f st None) (sym (crash_as_read d image settled crash)) (start_stands f (as_read d) st markers lawful start)
-
--- ---- numbers that no u64 has

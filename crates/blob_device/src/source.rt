@@ -89,7 +89,7 @@ impl MemSource {
     }
 }
 
-// Copies the prefix of `from`, as long as `most` and `into` allow, and answers its length.
+// Copies a prefix of `from`, as long as `most` and `into` allow, and answers its length.
 fn copy_prefix(from: &[u8], most: usize, into: &mut [u8]) -> usize
     ensures count { result ≡ min (min (length from.now) most) (length into.old) }
     ensures prefix { take result into.new ≡ take result from.now }

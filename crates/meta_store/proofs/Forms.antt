@@ -1,9 +1,7 @@
--- Which form bytes name.
+-- Which form a map with this floor is written in.
 use Rattle.std.proofs.Common.{◌≡◌, ◌≢◌, ℕ, zero, suc, refl, ap}
 use Rattle.meta_store.specs.declared.copy.Form.TheVariants.{Plain, Floored}
 use Rattle.meta_store.specs.Copies.{form_of}
-
--- ---- what the byte at 8 and the length tell
 
 -- ---- the form of a floor
 
@@ -14,7 +12,7 @@ form_above (suc n) above = refl
 pub form_at_zero : (floor : ℕ) → floor ≡ 0 → form_of floor ≡ Plain 1
 form_at_zero floor is = ap form_of is
 
--- and it is neither another number, nor floor 0
+-- the form of a floor is neither another number, nor floor 0
 pub no_floor_of : (number floor : ℕ) → number ≢ 1 → Plain number ≢ form_of floor
 no_floor_of number zero other same = other (cc same)
 no_floor_of number (suc n) other same = absurd (cc same)

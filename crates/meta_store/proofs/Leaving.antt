@@ -1,4 +1,4 @@
--- How what a crash leaves of each blob by itself makes what it leaves of a map.
+-- What a crash leaves of a map while one of its blobs is removed.
 use Rattle.std.proofs.Common.{◌≡◌, ◌⊎◌, inl, inr, ℕ, Bool, true, false, List, Option, Some, None, refl, sym, ◌∙◌, ap, subst}
 use Rattle.blob_device.specs.Disk.{Blob, MayLeave, past, settled_at, nothing}
 use Rattle.blob_device.specs.Change.{Remove, during}

@@ -1,4 +1,4 @@
--- The two blobs of a map by the side that is written next.
+-- What holds of both blobs of a map, whichever side is written next.
 use Rattle.std.proofs.Common.{◌≢◌, ℕ, List, sym}
 use Rattle.blob_device.specs.Disk.{Key}
 use Rattle.meta_store.specs.declared.error.Side.{Side}

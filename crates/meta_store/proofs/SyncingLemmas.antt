@@ -1,4 +1,4 @@
--- What writing the next copy of a map, and settling it, leaves of the map.
+-- The calls that write the next copy of a map and settle it: what they leave of its blob, and that no other changes.
 use Rattle.std.proofs.Common.{◌≡◌, ℕ, List, Result, Ok, ◌∙◌, ap, subst}
 use Rattle.blob_device.specs.declared.error.DevError.{DevError}
 use Rattle.blob_device.specs.Disk.{Key, Blob, settled_at}

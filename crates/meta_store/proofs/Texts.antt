@@ -1,4 +1,4 @@
--- What stands where in a sealed copy, and that bytes begin with one copy at most.
+-- A sealed copy, as it is written part by part.
 use Rattle.std.proofs.Common.{◌≡◌, ℕ, List, [], ◌++◌, length, ◌∙◌, ap}
 use Rattle.std.specs.Int.{w32, w64, to_be_bytes}
 use Rattle.meta_store.specs.declared.copy.Form.{Form}

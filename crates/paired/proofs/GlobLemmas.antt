@@ -1,4 +1,4 @@
--- What a glob is over, its sections' bytes, and what of them has settled, where calls went by.
+-- Buffers of which all has settled, and contents that are prefixes of more bytes.
 use Rattle.std.specs.Prelude.{◌≡◌, ℕ, ◌++◌, ◌||◌, not, Bool, true, false, List, length}
 use Rattle.std.proofs.Common.{inr, refl, sym, ◌∙◌, ap, subst, arith}
 use Rattle.std.proofs.lemmas.List.{length-take, take-append-le}
@@ -40,7 +40,7 @@ prefixes_longer bytes added b had = all_weaker (λ c. IsPrefixOf c bytes) (λ c.
 pub rested_prefixes : (u : WriteBlob) (b : Blob) → StandsSettled b → b.content ≡ content_of u b.content → HadPrefixes (content_of u b.content) b
 rested_prefixes u b rests again = subst (HadPrefixes (content_of u b.content)) (sym rests) (subst (IsPrefixOf b.content) again (prefix_itself b.content), tt)
 
--- so is one of which nothing is unsettled
+-- a buffer of which nothing is unsettled serves
 pub idle_serves : {told : Type 0} (u : WriteBlob) (b : Blob) → (told → Stands u b) → is_unsettled u ≡ false → Serves told u b
 idle_serves u b stands is = record {
   ends = idle_takes u is;

@@ -1,4 +1,4 @@
--- What a crash leaves of a section's records, from what it leaves of its two blobs.
+-- The law of what a crash leaves of a section's records, in one statement.
 use Rattle.std.proofs.Common.{◌≡◌, ℕ, ◌*◌, ◌%◌, ◌≤◌, List, length, map, take, IsTrue, arith}
 use Rattle.std.specs.List.{AllByRecursion}
 use Rattle.sealed_pages.specs.SealedPrefix.{sealed_prefix, Prefix}

@@ -1,4 +1,5 @@
--- Steps of opening both parts of a pair: whose blobs are whose, which sections are known, and what one part's opening says of the disk before the other's.
+-- Steps of opening both parts of a pair: which sections are known, and what one part's opening says of the disk before the
+-- other's. Also what each part does not answer.
 use Rattle.std.specs.Prelude.{◌≡◌, ◌⊎◌, ◌↔◌, ℕ, ◌+◌, ◌-◌, ◌*◌, ◌^◌, ◌<◌, ◌≤◌, List, IsTrue, IsSome, IsSomeAnd, Option, None, Some, unwrap_or, Result, Err}
 use Rattle.std.proofs.Common.{inl, inr, refl, sym, ◌∙◌, ap, subst, arith}
 use Rattle.std.specs.Result.{IsErrOf}

@@ -1,4 +1,4 @@
--- What a call keeps of a blob at each moment, and calls that spare the first bytes: those that outlived each crash do so.
+-- First bytes that calls spare, over single calls of the device.
 use Rattle.std.proofs.Common.{◌≡◌, ℕ, ◌≤◌, List, Result, sym, ap, subst, arith}
 use Rattle.blob_device.specs.declared.error.DevError.{DevError}
 use Rattle.blob_device.specs.Change.{Write, Resize}

@@ -1,4 +1,4 @@
--- A buffer over its calls: a flush in two steps, bytes added, and a sync.
+-- A buffer after a flush, and after a sync.
 use Rattle.std.proofs.Common.{◌≡◌, ◌≢◌, inl, inr, ℕ, Ok, ◌+◌, ◌*◌, ◌<◌, ◌≤◌, ◌||◌, not, eqb, Result, Bool, true, false, List, length, sym, ◌∙◌, ap, subst, arith}
 use Rattle.std.proofs.lemmas.Bool.{cases_Bool, eq-eqb}
 use Rattle.blob_device.specs.declared.error.DevError.{DevError}

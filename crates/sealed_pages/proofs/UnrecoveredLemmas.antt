@@ -1,4 +1,4 @@
--- Adopted blobs whose sealed prefix is shorter than their size: what the first pages say of that prefix, and what calls leave of it.
+-- A cut and a flush of a blob whose sealed prefix is shorter than its size, and adopting one.
 use Rattle.std.proofs.Common.{◌≡◌, inl, inr, ℕ, ◌+◌, ◌*◌, ◌<◌, ◌≤◌, List, length, Option, Some, None, refl, arith}
 use Rattle.std.proofs.lemmas.Bool.{cases_lt}
 use Rattle.blob_device.specs.Disk.{Key, Blob, past, settled_at}

@@ -17,6 +17,6 @@ abbrev pub KeepsAll : (List ℕ → Type 0) → Key → Timeline → Timeline �
 KeepsAll Q key old new = Always old new (λ d. AllSince Q (d key))
 
 -- At each moment, also inside calls of the device, each content that the blob has had since it settled is one that it had had
--- before, or one of these. So what all of them have, each has (`adds_keep` of proofs/unsealed/ContentLemmas).
+-- before, or one of these. So what all of them have, each has (`adds_keep` of `lemmas/unsealed/Content`).
 abbrev pub AddsOnly : List (List ℕ) → Key → Timeline → Timeline → Type 0
 AddsOnly made key old new = KeepsAll (Contains (past (disk old key) ++ made)) key old new

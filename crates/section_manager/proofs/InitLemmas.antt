@@ -1,4 +1,4 @@
--- What opening the sections of a partition, one after another, leaves of its blobs and of the manager.
+-- What opening the sections of a partition, one after another, makes of the manager.
 use Rattle.std.specs.Prelude.{◌≡◌, ◌≢◌, ◌⊎◌, ◌↔◌, ℕ, ◌+◌, ◌-◌, ◌^◌, ◌<◌, ◌≤◌, false, List, length, map, IsTrue, Option, Some, None, IsSome, Result, Ok, Err, IfOk, OnErr}
 use Rattle.std.specs.List.{Contains}
 use Rattle.std.specs.Option.{is_some}

@@ -1,4 +1,4 @@
--- What calls on one section after another make of a manager, and what they leave of its blobs.
+-- Where no named section is below the floor, none is refused.
 use Rattle.std.specs.Prelude.{◌↔◌, ℕ, ◌<◌, ◌≤◌}
 use Rattle.std.proofs.Common.{Ok, arith}
 use Rattle.section_manager.specs.Refusing.{IsPruned}

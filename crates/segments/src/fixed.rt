@@ -141,9 +141,9 @@ pub struct Journal<A: CodecFixed, S: Seal> {
 /// Of a blob that no call touches a crash leaves what its buffer promises. Of a sealed one it is a prefix of
 /// the bytes, no shorter than what has settled (`rests`). Of one that owes a replay it is the whole sealed
 /// prefix (`waits`). That stands at every moment of a call that touches another section's blob alone
-/// (`others`). It stands at every moment of a call that removes sections, of each other blob (`removes`), and
-/// of one that also cuts the last section that is left (`tails`). Of a replay it stands of each section that
-/// the replay does not cut, also of those that it goes over (`replays`).
+/// (`others`). It stands at every moment of a prune, for each blob that it does not remove (`removes`), and of
+/// a cut of all behind a byte, for each section before (`tails`). In a replay it stands for each section that
+/// is not cut, also where its bytes are gone over (`replays`).
 pub fn item_laws<A: CodecFixed, S: Seal>()
     ensures first { (P : ℕ) (bytes : List ℕ) (least : ℕ) (c : List ℕ)
         → Prefix S.seal_of P bytes least c → HoldsFirstItems A.SIZE bytes least

@@ -1,4 +1,4 @@
--- Varints: what a prefix of bytes that go on says of the number, and that each number has one spelling.
+-- How a varint is read byte by byte, and why the bytes at the start are none.
 use Rattle.std.proofs.Common.{◌≡◌, ℕ, zero, suc, ◌+◌, ◌-◌, ◌*◌, ◌/◌, ◌%◌, ◌^◌, ◌<◌, ◌≤◌, List, [], ◌∷◌, ◌++◌, length, take, drop, get_or, arith, refl, sym, ap, ◌∙◌, subst, ◌⊎◌, inl, inr, pow_pos, mul-pos, mul_assoc, mul_left_comm, add-one, add-mul, mul-le-mul_right, mul_comm, append_assoc, length-take-le, take_all, take-take, take-append-drop, Fits, w64, Result, Ok, Err, IfOk, IfErr}
 use Rattle.std.proofs.lemmas.Bool.{cases_lt}
 use Rattle.std.proofs.lemmas.Nat.{pow-add, shl_whole, shr_high}

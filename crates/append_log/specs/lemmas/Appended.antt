@@ -1,4 +1,4 @@
--- What a crash leaves while a record is appended.
+-- A settled blob holds its bytes, whatever crash comes.
 use Rattle.std.proofs.Common.{ℕ, List, refl, arith}
 use Rattle.blob_device.specs.Disk.{settled_at}
 use Rattle.blob_device.specs.lemmas.Keeps.{keeps_all}

@@ -1,4 +1,4 @@
--- The words of a call, and the job that they ask for.
+-- Which status a run may end with, for the words of its call.
 use Rattle.std.specs.Prelude.{IsSome}
 use Rattle.std.proofs.Common.{◌≡◌, inl, inr, ℕ, nat_eq, ◌≤◌, List, Some, refl, sym, subst, arith}
 use Rattle.std.proofs.lemmas.Bool.{cases_Bool, eqb-false, eqb-true}

@@ -1,4 +1,4 @@
--- A line says one command at most: its words can be read back.
+-- A line says one command at most: the words of each command can be read back.
 use Rattle.std.proofs.Common.{◌≡◌, ◌≢◌, ◌⊎◌, ℕ, Bool, true, ◌&&◌, ◌<◌, inl, inr, List, [], ◌∷◌, length, Result, Ok, Err, codes, refl, sym, ap, ◌∙◌, lit<, arith}
 use Rattle.std.specs.Prelude.{if◌then◌else◌, nat_lt}
 use Rattle.std.specs.List.{AllByRecursion, join_with_byte}

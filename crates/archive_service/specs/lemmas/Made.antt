@@ -1,4 +1,4 @@
--- The script that is generated, list behind list, and how its replies are counted, one by one.
+-- What all has that a generated script is made of, and that each of its commands can be said in a line.
 use Rattle.std.proofs.Common.{ℕ, zero, suc, Bool, true, false, ◌+◌, ◌*◌, ◌%◌, ◌<◌, ◌≤◌, ◌^◌, List, [], ◌∷◌, map, replicate, subst, rules, arith, refl}
 use Rattle.std.specs.Prelude.{if◌then◌else◌, ◌==◌}
 use Rattle.std.specs.Int.{byte_at, bytes_high_first}

@@ -1,4 +1,4 @@
--- A text is one script at most, and has one first bad line at most.
+-- A text is one script at most, and either a script or one with a bad line.
 use Rattle.std.proofs.Common.{◌≡◌, ℕ, List, [], ◌∷◌, ◌++◌, refl, sym, ◌∙◌, lit<}
 use Rattle.std.specs.List.{AllByRecursion}
 use Rattle.std.proofs.lemmas.List.{append_assoc}

@@ -1,4 +1,4 @@
--- What the words of scripts are made of, and how they are read.
+-- What the words of scripts are made of: which bytes they lack, and where a text is cut.
 use Rattle.std.proofs.Common.{◌≡◌, ◌≢◌, ℕ, zero, suc, Bool, true, ◌&&◌, ◌||◌, ◌/◌, ◌%◌, ◌<◌, inl, inr, List, [], ◌∷◌, ◌++◌, slice_index, codes, refl, arith}
 use Rattle.std.specs.Prelude.{nat_le}
 use Rattle.std.specs.List.{AllByRecursion}

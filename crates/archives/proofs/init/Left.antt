@@ -1,4 +1,4 @@
--- What an opening has left on a disk, settled: where the crashes of that disk leave lawful images, its archive is sound, whatever was cut off.
+-- What an opening has left on a disk with nothing pending: where the crashes of that disk leave lawful images, its archive is sound, whatever was cut off.
 use Rattle.std.proofs.Common.{◌≡◌, inl, inr, refl, sym, ◌∙◌, ap, subst, ℕ, ◌<◌, ◌^◌, false, List, [], length, map, take, Some, IsTrue, arith}
 use Rattle.std.specs.List.{AllByRecursion}
 use Rattle.std.proofs.lemmas.List.{nil_from_length, take_all}

@@ -1,4 +1,4 @@
--- What the records of an archive are by their size, and which markers an image holds.
+-- What the records of an archive are by their size.
 use Rattle.std.proofs.Common.{◌≡◌, ℕ, zero, suc, ◌+◌, ◌-◌, ◌*◌, ◌<◌, List, length, drop, None, arith, length-drop}
 use Rattle.std.specs.List.{AllByRecursion}
 use Rattle.std.proofs.lemmas.Bool.Decides.{nat_tests}
@@ -38,5 +38,3 @@ none_unreadable l d Marked e is =
     let fine : size_refusal l.record_size (last_of l d is.section is.items) ≡ None = last_whole l d is.section is.items in
     let bad = is.refused in
     cc (fine, bad)
-
--- ---- markers

@@ -39,7 +39,7 @@ use Rattle.archives.proofs.StandLemmas.{AreFiled, keeps_stand}
 use Rattle.blob_device.proofs.general.Lists.{all_by, all_push}
 use Rattle.archives.specs.lemmas.put.Stands.{put_appends}
 
--- ---- settled
+-- ---- between calls
 
 -- what a crash leaves while no call is under way
 pub stands_settled : {F S : Type 0} {gs : _} {g : buffer.Ghosts (PageBlob S gs)} {gives : F → Setting} {takes : WriteFactory → Setting} {told : Type 0} {opened : _} (a : Archive F (PageBlob S gs)) (d : Disk)

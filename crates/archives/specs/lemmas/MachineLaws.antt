@@ -1,6 +1,5 @@
--- What each step of the machine does to a section, and what it therefore keeps: no section has more records synced than it
--- has, each record lies in the section of its index, nothing lies below the floor, and what is synced outlasts all but a
--- prune and a destroy.
+-- Each step of the machine keeps the records of a section in order: no more are synced than there are, and what is synced
+-- outlasts all but a prune and a destroy.
 use Rattle.std.proofs.Common.{◌≡◌, ◌⊎◌, inl, inr, refl, sym, ◌∙◌, ap, subst, ℕ, ◌<◌, ◌≤◌, Bool, true, false, ◌||◌, ◌==◌, nat_lt, nat_le, if◌then◌else◌, List, [], ◌∷◌, ◌++◌, length, take, Option, Some, None, IsTrue, arith, length-append}
 use Rattle.std.proofs.lemmas.List.{take-append-le, take-take}
 use Rattle.std.proofs.lemmas.Bool.{cases_lt, false≢true}

@@ -1,4 +1,4 @@
--- An opening as a step of the machine, and what a disk with nothing pending stands for before the first one.
+-- A section whose number no u64 has is empty, and nothing of it is synced.
 use Rattle.std.proofs.Common.{◌≡◌, inl, inr, ap, ℕ, ◌≤◌, ◌^◌, [], length, map, None, arith}
 use Rattle.blob_device.specs.Disk.{Disk}
 use Rattle.blob_device.specs.Opened.{OpenedList}

@@ -1,4 +1,4 @@
-// Removing sections from the start.
+// Removing the first sections.
 ghost use Rattle.std.specs.Prelude.{◌≡◌, ◌<◌, ◌≤◌, ℕ, false};
 ghost use Rattle.std.specs.BTreeSet.{contains};
 ghost use Rattle.std.specs.Ordering.{nat_cmp};
@@ -39,7 +39,7 @@ impl<T: Translator, K: Key, V: Codec, S: Seal> Archive<T, K, V, S> {
         }
         let mut this = self;
         // First what is held in memory: nothing there names a section below the bound once its blobs go.
-        // From the start no run is split, so this takes no memory.
+        // What goes is first, so no run is split and this takes no memory.
         this.tables.remove_below(bound);
         this.indices.remove(0, bound - 1)?;
         remove_below(&mut this.written, bound);

@@ -1,4 +1,4 @@
--- Which form bytes name.
+-- Which form bytes name: one at most, by the byte at 8 and by the length.
 use Rattle.std.proofs.Common.{◌≡◌, ◌≢◌, ℕ, zero, suc, ◌<◌, ◌≤◌, ◌^◌, List, [], ◌∷◌, length, get_or, take, drop, refl, sym, ◌∙◌, ap, arith}
 use Rattle.std.proofs.lemmas.List.{take-take, drop_more}
 use Rattle.std.specs.Int.{w64, to_be_bytes}

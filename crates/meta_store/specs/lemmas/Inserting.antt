@@ -1,4 +1,4 @@
--- What an insertion makes of the entries of a map, and a write through a value that was lent.
+-- What is retained of the entries of a map is no more than there were.
 use Rattle.std.proofs.Common.{◌≡◌, ◌≤◌, length, arith, Bool, true, false, cond, List, [], ◌∷◌, ap}
 use Rattle.meta_store.specs.Entries.{Retained}
 

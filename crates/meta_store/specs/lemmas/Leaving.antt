@@ -1,4 +1,4 @@
--- How what a crash leaves of each blob by itself makes what it leaves of a map.
+-- What a crash leaves of each blob of a map by itself: its text, and what the two make of the map.
 use Rattle.std.proofs.Common.{◌≡◌, ◌⊎◌, inl, inr, ℕ, List, Ok, Option, Some, None, refl, sym, subst, arith}
 use Rattle.std.proofs.lemmas.List.{ext_get_or}
 use Rattle.blob_device.specs.Disk.{Blob, Disk, MayHold, MayLeave, past, settled_at, nothing}

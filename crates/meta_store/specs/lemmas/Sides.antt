@@ -1,4 +1,4 @@
--- The two blobs of a map by the side that is written next.
+-- The two blobs of a map, by the side that is written next, and how they stand.
 use Rattle.std.proofs.Common.{◌≡◌, ◌≢◌, ℕ, List, Ok, sym, ap}
 use Rattle.blob_device.specs.Disk.{Key, Disk, settled_at}
 use Rattle.meta_store.specs.declared.copy.Contents.{Contents}

@@ -1,4 +1,4 @@
--- What writing the next copy of a map, and settling it, leaves of the map.
+-- A map that stands outlives every crash, also while its next copy is written and settled.
 use Rattle.std.proofs.Common.{◌≡◌, ◌⊎◌, inl, inr, ℕ, ◌+◌, ◌-◌, ◌<◌, ◌^◌, Bool, true, false, not, ◌||◌, List, ◌++◌, length, take, drop, replicate, Result, Ok, Option, Some, None, refl, sym, ◌∙◌, ap, subst, arith}
 use Rattle.std.proofs.lemmas.List.{take_at}
 use Rattle.blob_device.specs.declared.error.DevError.{DevError}

@@ -1,4 +1,4 @@
--- A replay of a pair as the program has it, from what it shows.
+-- The parts of a replay of a pair, as the program has them, against what it shows.
 use Rattle.std.specs.Prelude.{◌≡◌, ℕ, Bool, Option, None, Some, IsSomeAnd, IfSome, Result, Ok, Err, IfOk}
 use Rattle.std.proofs.Common.{refl, ap, subst}
 use Rattle.blob_device.specs.Disk.{Disk}

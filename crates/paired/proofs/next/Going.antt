@@ -1,4 +1,4 @@
--- A replay of a pair after some turns that skipped their records, and after one more: what `next` answers, from where it began.
+-- A replay of a pair after one turn more: what `next` answers, from where it began.
 use Rattle.std.specs.Prelude.{◌≡◌, ◌⊎◌, ◌↔◌, ℕ, ◌+◌, ◌*◌, ◌/◌, ◌^◌, ◌<◌, ◌≤◌, ⊤, Bool, true, false, List, [], length, get_or, Option, None, Some, Result, Ok, Err}
 use Rattle.std.proofs.Common.{inl, inr, refl, sym, ◌∙◌, ap, subst, arith, div-lt_iff_lt-mul}
 use Rattle.blob_device.specs.Disk.{Key, Disk, MayLeave, reads}

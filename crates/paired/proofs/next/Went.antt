@@ -1,4 +1,4 @@
--- What one or more calls of `next` did to the walk over a pair's records: what they leave of its sections, and what their items are.
+-- Small facts on options and tests, for what calls of `next` leave of the walk.
 use Rattle.std.specs.Prelude.{◌≡◌, Bool, true, false, Option, None, Some, IsSome}
 use Rattle.std.proofs.Common.{refl, subst}
 

@@ -1,4 +1,4 @@
--- The end of an opening by markers: which records stand, and that what it cuts, removes and writes leaves each crash with the same lists.
+-- What is kept of the first records of a section, and of its records by a lower marker.
 use Rattle.std.specs.Prelude.{◌≡◌, ℕ, zero, suc, ◌+◌, ◌≤◌, ◌||◌, nat_lt, if◌then◌else◌, Bool, true, false, List, [], ◌∷◌, length, map, take, IsTrue}
 use Rattle.std.proofs.Common.{inl, inr, refl, sym, ◌∙◌, ap, subst, arith, length-take, length-take-le}
 use Rattle.std.specs.List.{AllByRecursion}
@@ -10,12 +10,6 @@ use Rattle.paired.specs.Opening.{IsOrder, APrefix, UpTo}
 use Rattle.paired.specs.Records.{Entry, unbroken_prefix}
 use Rattle.blob_device.proofs.general.Lists.{all_take}
 use Rattle.paired.specs.lemmas.opening.Ends.{AreTrueOf, rs}
-
--- ---- which records stand
-
--- ---- places
-
--- ---- what an image keeps of one section, against another image
 
 -- ---- relations between what is kept
 

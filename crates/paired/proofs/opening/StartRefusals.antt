@@ -1,4 +1,4 @@
--- Why an opening refuses, against a lawful image: the last record below a marker, and no marker of a lawful image is refused.
+-- Why an opening refuses, against a lawful image: no marker of a lawful image is refused, nor a record below it.
 use Rattle.std.specs.Prelude.{◌≡◌, ◌⊎◌, ℕ, ◌+◌, ◌-◌, ◌*◌, ◌%◌, ◌^◌, ◌<◌, ◌≤◌, cond, Bool, true, false, List, [], length, take, get_or, IsTrue, IsSome, IfSome, Option, None, Some, unwrap_or}
 use Rattle.std.proofs.Common.{inl, inr, refl, ◌∙◌, ap, subst, arith, length-take-le}
 use Rattle.std.specs.Int.{w64, to_be_bytes}
@@ -28,8 +28,6 @@ use Rattle.paired.specs.Places.{end_of}
 use Rattle.blob_device.proofs.general.Options.{value_of}
 use Rattle.blob_device.proofs.general.Lists.{all_at}
 use Rattle.paired.specs.lemmas.opening.StartRefusals.{last_is_record, records_end, sealed_small}
-
--- ---- the last record
 
 -- ---- lengths
 pub adopted_within : (seal : List ℕ → ℕ) (P : ℕ) (c : List ℕ) → adopted_size seal P c ≤ length c

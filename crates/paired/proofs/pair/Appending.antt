@@ -1,4 +1,4 @@
--- What is known of a section of a pair after a record and its value were added.
+-- What is known of a section of a pair to whose values more is added.
 use Rattle.std.proofs.Common.{◌≡◌, ℕ, ◌≤◌, List, ◌++◌, length, IsTrue, refl, arith, length-append}
 use Rattle.std.proofs.Math.Seq.{take-length}
 use Rattle.paired.specs.Records.{records, is_sound, entry_of}

@@ -1,4 +1,4 @@
--- How the blobs of one section of a pair stand: while they are made, while they are removed, and between calls.
+-- Blobs without bytes or records, while they are made and while they are removed.
 use Rattle.std.proofs.Common.{◌≡◌, inl, inr, ℕ, max, Bool, true, false, cond, List, [], ◌∷◌, ◌++◌, length, sym, ◌∙◌, ap, subst, arith}
 use Rattle.blob_device.specs.Disk.{Blob, greatest, longest}
 use Rattle.section_manager.specs.Lasting.{IsOpening, IsGoing}

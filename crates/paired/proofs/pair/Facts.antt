@@ -1,4 +1,4 @@
--- What is known of a pair between calls: its facts, and how its blobs stand, from what its three parts promise.
+-- A pair's copies that are gone hold no markers.
 use Rattle.std.proofs.Common.{◌≡◌, inl, ℕ, sym, ◌∙◌, ap, subst}
 use Rattle.blob_device.specs.Disk.{Disk, nothing}
 use Rattle.value_codec.specs.declared.key.Key8.{Key8}

@@ -1,4 +1,4 @@
--- What a crash leaves of a pair, from what it may leave its blobs as.
+-- What blobs that stand for a pair's lists stand for beside: longer lists, and those of another moment.
 use Rattle.std.proofs.Common.{◌≡◌, ◌⊎◌, inl, inr, ℕ, ◌^◌, ◌<◌, ◌≤◌, List, [], length, map, take, Option, None, Some, IsSomeAnd, unwrap_or, sym, ◌∙◌, ap, subst, arith, length-take}
 use Rattle.std.specs.List.{AllByRecursion}
 use Rattle.std.proofs.lemmas.List.{take-take, take-map, take_min, length-map}

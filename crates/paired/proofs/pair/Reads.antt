@@ -1,4 +1,4 @@
--- What a pair's readers answer: the entry at a position of a section's list, the end of its last value, and that a pair stays one where blobs are only read.
+-- What a pair's readers answer, and that a pair stays one where blobs are only read.
 use Rattle.std.proofs.Common.{◌≡◌, ◌⊎◌, inl, inr, ℕ, ◌-◌, ◌*◌, ◌/◌, ◌^◌, ◌<◌, ◌≤◌, ◌↔◌, List, Option, None, Some, IsSome, IsSomeAnd, Result, Ok, Err, IfOk, OnOk, OnErr, IsTrue, refl, sym, ◌∙◌, ap, subst, arith}
 use Rattle.std.specs.Option.{ok_or, SomeIff}
 use Rattle.std.specs.Result.{IsErrOf}

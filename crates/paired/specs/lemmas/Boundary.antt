@@ -1,4 +1,4 @@
--- What the check of the markers has found, against the disk: where the last value below each marker ends, and why a marker is refused.
+-- What an image has of a blob that is there.
 use Rattle.std.proofs.Common.{◌≡◌, ℕ, Bool, cond, List, [], None, Some, unwrap_or, true, ap}
 use Rattle.blob_device.specs.Disk.{Disk}
 use Rattle.section_manager.specs.Sections.{section_key}

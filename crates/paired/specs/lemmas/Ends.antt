@@ -1,4 +1,4 @@
--- Sections that are cut: to how many records each, what is known of that, and what stands between the cut of records and that of their values.
+-- Sections that are cut: to how many records each, and what of them is given.
 use Rattle.std.proofs.Common.{◌≡◌, ℕ, ◌^◌, ◌<◌, ◌≤◌, List, length, map, take, Option, None, Some}
 use Rattle.blob_device.specs.Disk.{Disk}
 use Rattle.blob_device.specs.Opened.{OpenedList}

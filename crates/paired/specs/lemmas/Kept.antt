@@ -1,4 +1,4 @@
--- What a crash leaves of a section's records, from what it leaves of its two blobs.
+-- What a crash leaves of a section's records, from what it leaves of its two blobs: step by step.
 use Rattle.std.proofs.Common.{◌≡◌, inl, inr, ℕ, zero, suc, ◌+◌, ◌-◌, ◌≤◌, Bool, ◌&&◌, ◌==◌, nat_le, List, [], ◌∷◌, length, map, take, drop, min, IsTrue, refl, sym, ◌∙◌, ap, subst, arith, length-take, length-drop}
 use Rattle.std.specs.Int.{w32, from_be_bytes}
 use Rattle.std.specs.List.{AllByRecursion}

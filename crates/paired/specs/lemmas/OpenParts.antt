@@ -1,4 +1,4 @@
--- Steps of opening both parts of a pair: whose blobs are whose, which sections are known, and what one part's opening says of the disk before the other's.
+-- Two partitions have no blob in common.
 use Rattle.std.specs.Prelude.{◌≢◌, ℕ, List}
 use Rattle.std.proofs.Common.{sym, ap}
 use Rattle.blob_device.specs.Disk.{Key}

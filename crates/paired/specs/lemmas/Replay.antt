@@ -1,4 +1,4 @@
--- One turn of a replay of a pair: the walk goes on, and the record that it gives is sorted. Which records are then due, and where sections end.
+-- A record of a section is the item at its position.
 use Rattle.std.specs.Prelude.{◌≡◌, ℕ, zero, suc, ◌+◌, ◌/◌, ◌<◌, List, [], length, get_or}
 use Rattle.std.proofs.Common.{refl, ◌∙◌, ap, arith}
 use Rattle.std.proofs.Math.Numerals.{add-one}

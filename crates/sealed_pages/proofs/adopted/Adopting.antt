@@ -1,4 +1,4 @@
--- From adopting to the first flush: what is kept, and when it is ready for bytes.
+-- When an adopted blob is ready for its first flush.
 use Rattle.std.proofs.Common.{◌≡◌, inl, inr, ℕ, ◌+◌, ◌-◌, ◌*◌, ◌^◌, ◌<◌, ◌≤◌, ◌||◌, Bool, true, false, cond, List, refl, sym, ◌∙◌, ap, subst, arith}
 use Rattle.std.proofs.lemmas.Bool.{cases_lt, eq-eqb}
 use Rattle.blob_device.specs.Disk.{Blob}

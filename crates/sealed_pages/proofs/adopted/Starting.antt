@@ -148,7 +148,7 @@ module _ (seal : List ℕ → ℕ) (P : ℕ) (c : List ℕ) (found : Option Last
       go None size s = adopted_none seal P c pos all first from newest behind torn begun size sealed fits same s.0 s.1 s.2 s.3
       go (Some p) size s = adopted_some seal P c pos all first from newest behind torn begun size sealed fits same p.page s
 
-  -- the bytes of the tip, which is the prefix of that page
+  -- the bytes of the tip, which are a prefix of that page
   pub tip_is : Finds seal P c found buf → StartsOver seal P c found first from newest behind torn → (i : ℕ) → i < from → get_or (take from buf) i 0 ≡ view c (page_at P first + i)
   tip_is finds s i lt = get_or-take from buf i 0 lt ∙ go found finds s
     where

@@ -1,4 +1,4 @@
--- What the steps of a cut leave: the pages below a page start, a slot beside the one that covers a page, and zeros over a slot.
+-- A cut has the first bytes of its content, and a slot that matches covers bytes that are there.
 use Rattle.std.proofs.Common.{◌≡◌, inl, inr, ℕ, ◌<◌, ◌≤◌, Bool, List, length, take, sym, ◌∙◌, arith, length-take}
 use Rattle.std.proofs.lemmas.Bool.{cases_lt}
 use Rattle.std.proofs.lemmas.List.{get_or-take, ext_get_or}

@@ -1,4 +1,4 @@
--- A buffer that is cut: what it holds before and after.
+-- A buffer that is cut: what it holds after, and what the call says of its moments.
 use Rattle.std.proofs.Common.{eqb, ◌≡◌, ◌≢◌, ◌⊎◌, inl, inr, ℕ, ◌+◌, ◌-◌, ◌*◌, ◌/◌, ◌%◌, ◌^◌, ◌<◌, ◌≤◌, not, Bool, false, cond, List, [], length, get_or, take, drop, Result, Ok, Err, refl, sym, ◌∙◌, ap, subst, arith, length-take, IsErrAnd}
 use Rattle.std.proofs.lemmas.Bool.{cases_eq, cases_lt, eq-eqb, ne_eqb}
 use Rattle.std.proofs.lemmas.List.{get_or-take, get_or-drop}
@@ -58,7 +58,7 @@ module _ (seal : List ℕ → ℕ) (P : ℕ) where
   data_all : (all c : List ℕ) (F : ℕ) (σ : ℕ → Bool) → Sound seal P all c → Covers seal P c F σ → Data P all F (view c)
   data_all all c F σ sound covers k i lt below = sound.same k (σ k) i (omega (arith, lt, below, covers k (omega (arith, below))))
 
-  -- settled with these bytes, nothing else to come to match
+  -- where the blob has settled with these bytes, nothing else comes to match
   pub rest_ready : (all : List ℕ) (F : ℕ) (σ : ℕ → Bool) (newest : Bool) (b : Blob) → 1 ≤ P → F ≡ length all → StandsSettled b → SoundTo seal P all b.content → Below seal P F b.content → Covers seal P b.content F σ → Quiet P F (view b.content)
       → ((k : ℕ) → k * P < F → F < k * P + P → σ k ≡ newest) → Ready seal P all F F newest b
   rest_ready all F σ newest b pos is rest sound below covers quiet head = record {

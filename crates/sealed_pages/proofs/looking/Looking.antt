@@ -1,4 +1,4 @@
--- Reading slots, and calls that only read.
+-- The bytes that a slot names, pages without a matching slot, and how many pages have their places.
 use Rattle.std.proofs.Common.{◌≡◌, inl, inr, ℕ, zero, suc, ◌+◌, ◌-◌, ◌*◌, ◌^◌, ◌<◌, ◌≤◌, min, ◌/◌, Bool, true, false, List, [], ◌∷◌, length, get_or, take, Option, Some, refl, sym, ◌∙◌, ap, subst, arith, length-take}
 use Rattle.std.specs.Prelude.{IfSome}
 use Rattle.std.proofs.Math.Nat.{mul-le-mul_right, div-mul-le_self, lt-div-mul-add}

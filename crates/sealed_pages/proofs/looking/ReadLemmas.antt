@@ -33,7 +33,7 @@ pub index_twice : (P k : ℕ) → k + k ≤ page_at P k
 unfolding page_at
 index_twice P k = omega arith
 
--- the prefix of a list that is filled piece by piece
+-- a list that is filled piece by piece has these bytes so far
 pub filled : (F : ℕ → ℕ) (a k : ℕ) (xs ys : List ℕ) → a ≤ length xs → ((i : ℕ) → i < a → get_or xs i 0 ≡ F i) → ((j : ℕ) → j < length ys → get_or ys j 0 ≡ F (a + j))
     → (i : ℕ) → i < a + length ys → get_or (put_mid a k xs ys) i 0 ≡ F i
 filled F a k xs ys fits prefix back i lt =

@@ -1,4 +1,4 @@
--- The bytes that a reader has at hand.
+-- A reader after a step: what it still has to read, and that it stays the same otherwise.
 use Rattle.std.proofs.Common.{◌≡◌, ◌⊎◌, inl, inr, ℕ, ◌+◌, ◌-◌, ◌*◌, ◌/◌, ◌<◌, ◌≤◌, max, cond, Bool, Result, Ok, Err, List, length, refl, ◌∙◌, ap, arith, is_ok, if◌then◌else◌}
 use Rattle.std.proofs.Math.Nat.{div-mul-le_self, lt-div-mul-add}
 use Rattle.std.proofs.lemmas.Bool.{cases_lt, le-leb, lt-leb}

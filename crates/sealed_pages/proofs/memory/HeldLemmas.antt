@@ -1,4 +1,4 @@
--- Which bytes of a buffer are in memory.
+-- Bytes of a buffer in memory stand below its size, and those of the tip are there.
 use Rattle.std.proofs.Common.{◌≡◌, inl, ℕ, ◌+◌, ◌-◌, ◌/◌, ◌<◌, ◌≤◌, arith}
 use Rattle.std.proofs.lemmas.Nat.{le-div}
 use Rattle.std.proofs.Math.Nat.{mul-le-mul_right}

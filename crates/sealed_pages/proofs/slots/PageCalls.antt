@@ -1,4 +1,4 @@
--- The two calls by which a page is flushed.
+-- Runs of the calls by which pages are flushed, one after the other, and calls in another spelling.
 use Rattle.std.proofs.Common.{◌≡◌, ℕ, ◌+◌, ◌-◌, ◌*◌, ◌<◌, ◌≤◌, Bool, cond, List, length, get_or, take, drop, Result, Ok, Err, OnOk, refl, sym, ◌∙◌, ap, subst, arith, length-drop, length-take}
 use Rattle.std.specs.Result.{IsErr}
 use Rattle.std.proofs.lemmas.List.{get_or-drop, get_or-take, take_all}

@@ -1,4 +1,4 @@
--- Where pages and slots stand, and what decides whether a slot matches.
+-- A page begins no sooner than its number.
 use Rattle.std.proofs.Common.{ℕ, ◌+◌, ◌<◌, ◌≤◌, arith}
 use Rattle.std.proofs.Math.Nat.{le-mul_of_pos_right}
 use Rattle.sealed_pages.specs.View.{page_at}

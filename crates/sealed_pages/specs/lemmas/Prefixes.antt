@@ -1,4 +1,4 @@
--- What a call keeps of a blob at each moment, and calls that spare the first bytes: those that outlived each crash do so.
+-- What a call keeps of a blob at each moment: first bytes that outlived each crash do so, as long as they are spared.
 use Rattle.std.proofs.Common.{◌≡◌, inl, inr, ℕ, ◌<◌, ◌≤◌, List, length, get_or, Result, Ok, Err, refl, sym, ◌∙◌, ap, subst, arith}
 use Rattle.std.proofs.lemmas.Bool.{cases_lt}
 use Rattle.std.proofs.lemmas.List.{get_or_past}

@@ -1,4 +1,4 @@
--- A buffer over its calls: a flush in two steps, bytes added, and a sync.
+-- What is flushed stays so where bytes are added.
 use Rattle.std.proofs.Common.{◌≡◌, ℕ, ◌*◌, ◌≤◌, List, ◌++◌, length, sym, subst, arith, append_assoc}
 use Rattle.sealed_pages.specs.lemmas.memory.Holding.{bytes_length}
 use Rattle.sealed_pages.specs.lemmas.slots.PageCalls.{data_more}

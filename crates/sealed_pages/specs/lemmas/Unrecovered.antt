@@ -1,4 +1,4 @@
--- Adopted blobs whose sealed prefix is shorter than their size: what the first pages say of that prefix, and what calls leave of it.
+-- Blobs whose sealed prefix is shorter than their size: it outlives calls that spare it, and each crash leaves it.
 use Rattle.std.proofs.Common.{◌≡◌, ◌⊎◌, inl, inr, ℕ, zero, suc, ◌+◌, ◌*◌, ◌<◌, ◌≤◌, max, Bool, true, false, List, ◌++◌, length, take, Result, Ok, Option, Some, None, IsSomeAnd, length-append, refl, sym, ◌∙◌, ap, subst, arith, get_or, length-take}
 use Rattle.std.proofs.lemmas.Bool.{cases_lt}
 use Rattle.std.proofs.lemmas.Nat.{le-div}

@@ -1,4 +1,4 @@
--- Writes over one another, and what a cut of the last of them leaves.
+-- A write of no bytes changes nothing.
 use Rattle.std.proofs.Common.{◌≡◌, inl, inr, ℕ, ◌≤◌, List, [], length, arith}
 use Rattle.std.proofs.lemmas.Bool.{cases_lt}
 use Rattle.std.proofs.lemmas.List.{ext_get_or}

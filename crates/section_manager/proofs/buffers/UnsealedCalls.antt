@@ -1,4 +1,4 @@
--- What the calls of a buffer without seals leave of its section at each moment.
+-- The moments of a sync and of a cut of a buffer without seals.
 use Rattle.std.proofs.Common.{◌≡◌, ◌⊎◌, inl, inr, ℕ, ◌<◌, ◌≤◌, min, [], ◌∷◌, length, take, Result, Ok, Err, sym, subst, arith}
 use Rattle.std.specs.Prelude.{⊤, IsOkAnd, IfOk, IfSome, OnErr, IsTrue}
 use Rattle.blob_device.specs.declared.runtime.RError.{RError}

@@ -1,4 +1,4 @@
--- What cuts of sections make of a manager.
+-- An error of a buffer's cut, passed on as one of the manager, has the same cause.
 use Rattle.std.specs.Prelude.{◌≡◌, ◌⊎◌, ℕ, ◌≤◌, Option, None, Some, IsSome, IsSomeAnd, Result, OnErr}
 use Rattle.std.proofs.Common.{inl, inr, Err, sym, ◌∙◌, ap, subst, arith}
 use Rattle.std.specs.Option.{unwrap_or, is_some}

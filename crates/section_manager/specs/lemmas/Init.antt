@@ -1,4 +1,4 @@
--- What opening the sections of a partition, one after another, leaves of its blobs and of the manager.
+-- What opening the sections of a partition, one after another, leaves of its blobs.
 use Rattle.std.specs.Prelude.{◌≡◌, ◌⊎◌, ℕ, ◌≤◌, Bool, true, cond, List, [], ◌∷◌, ◌++◌, IsTrue}
 use Rattle.std.proofs.Common.{inl, inr, refl, sym, ◌∙◌, ap, subst}
 use Rattle.blob_device.specs.Disk.{Key, Blob, Disk, settled_at}

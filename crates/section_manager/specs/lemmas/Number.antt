@@ -1,4 +1,4 @@
--- Numbers in a list, and the names of blobs that spell them.
+-- The name of a section's blob has 8 bytes.
 use Rattle.std.specs.Prelude.{◌≡◌, ℕ, length}
 use Rattle.std.specs.Int.{w64, to_be_bytes}
 use Rattle.std.proofs.Common.{refl}

@@ -1,4 +1,4 @@
--- How an append to a fixed journal ends, from what its manager and the section's buffer answered.
+-- Why an append to a fixed journal fails, and the append of one item as one of bytes.
 use Rattle.std.proofs.Common.{◌≡◌, ◌⊎◌, ◌∙◌, inl, inr, ℕ, ◌+◌, ◌^◌, ◌<◌, ◌≤◌, List, length, Some, Result, Ok, Err, OnErr, sym, ap, subst, arith}
 use Rattle.std.specs.Result.{IsErrOf}
 use Rattle.blob_device.specs.Counts.{Rose}
@@ -33,7 +33,7 @@ buffer_error r e x is of = cc (is, of)
 pub buffer_well : {U : Type 0} (r : Result U RError) (v : U) (x : RError) → r ≡ Ok v → IsErrOf r x → ⊥
 buffer_well r v x is of = cc (is, of)
 
--- nor is a section below the floor
+-- a section below the floor is not full
 module _ {T : Type 0} (e : Error) (floor : ℕ) (pruned : e ≡ AlreadyPrunedToSection floor) where
   pub pruned_not_full : IsErrOf {T = T} (Err e) Full → ⊥
   pruned_not_full is = cc (is, pruned)
@@ -90,8 +90,6 @@ module _ {T : Type 0} (e : Error) (n m : ℕ) (why : Why e n m) where
     | inr (inl none) ↦ inr (inr (inl (ap Err (why.is ∙ ap full_or_raised_of none))))
     | inr (inr (fault, rose)) ↦ inr (inr (inr (ap Err (why.is ∙ ap full_or_raised_of fault), omega (arith, le, rose))))
   ]
-
--- ---- what an append leaves, however it ends
 
 -- ---- the same append, of an item
 

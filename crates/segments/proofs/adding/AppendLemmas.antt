@@ -1,4 +1,4 @@
--- What an append makes of a fixed journal, and what it leaves of the section's blob.
+-- When a section is full, and errors and clauses of an append by other names.
 use Rattle.std.proofs.Common.{◌≡◌, inl, inr, ℕ, ◌+◌, ◌-◌, ◌/◌, ◌^◌, ◌<◌, ◌≤◌, Bool, true, false, cond, List, [], ◌∷◌, ◌++◌, IsTrue, Result, Ok, Err, IfOk, refl, sym, ◌∙◌, ap, subst, arith}
 use Rattle.std.specs.Result.{MatchResult}
 use Rattle.std.proofs.Math.Nat.{div-le_self, mul-le-mul_right}

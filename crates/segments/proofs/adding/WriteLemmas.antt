@@ -1,4 +1,4 @@
--- What a fixed journal keeps of one section, and what syncs of a fixed journal make of it and leave of its blobs.
+-- What syncs make of a fixed journal, and what they leave of its blobs.
 use Rattle.std.proofs.Common.{◌≡◌, ◌⊎◌, inl, inr, ℕ, ◌<◌, ◌≤◌, ◌==◌, ◌^◌, not, Bool, true, false, List, length, Option, None, Some, IsSome, IsSomeAnd, refl, sym, ◌∙◌, ap, subst, arith}
 use Rattle.std.proofs.lemmas.Bool.{false_from_ne_true}
 use Rattle.std.proofs.lemmas.Bool.Decides.{nat_tests}

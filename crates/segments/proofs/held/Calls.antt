@@ -1,4 +1,4 @@
--- Calls on the buffer of a section that was taken out: what holds of it at the section's key, from the moment before it was taken.
+-- Two calls on sections of a manager, one after the other, and a buffer that was cut over its blob.
 use Rattle.std.specs.Prelude.{◌≡◌, ◌≢◌, ℕ, ◌<◌, ◌≤◌, List}
 use Rattle.std.proofs.Common.{inl, inr, sym, ◌∙◌, ap, subst}
 use Rattle.std.proofs.lemmas.Bool.{cases_lt}

@@ -1,4 +1,4 @@
--- What a call of a fixed journal that fails passes on of the call below it.
+-- What a call of a fixed journal whose error was passed on does not answer, and why the last step of an opening fails.
 use Rattle.std.proofs.Common.{◌≡◌, ◌⊎◌, ◌≤◌, inl, inr, ℕ, List, Result, Ok, Err, sym, subst, OnErr, IfOk}
 use Rattle.std.specs.Result.{IsErr, IsErrOf}
 use Rattle.section_manager.specs.declared.journal.Error.{Error}

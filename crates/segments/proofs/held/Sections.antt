@@ -1,4 +1,4 @@
--- One held section of a fixed journal, and the journal after calls that only read.
+-- Reads of one held section, and that no page of a proven or sealed one is damaged.
 use Rattle.std.proofs.Common.{◌≡◌, ◌⊎◌, inl, inr, ℕ, ◌*◌, List, IsSomeAnd, sym, ◌∙◌, subst}
 use Rattle.blob_device.specs.Disk.{Key, Disk}
 use Rattle.blob_device.specs.Opened.{OpenedList}

@@ -1,4 +1,4 @@
--- A replay of a fixed journal where it begins.
+-- A replay of a fixed journal where it begins, and what it leaves as it was when it has finished.
 use Rattle.std.specs.Prelude.{◌≡◌, ◌⊎◌, ℕ, ◌*◌, ◌/◌, ◌<◌, ◌≤◌, false, List, IsTrue, None, Some, IsSome}
 use Rattle.std.proofs.Common.{inl, inr, sym, ◌∙◌, subst, arith}
 use Rattle.std.proofs.lemmas.Bool.{cases_lt, cases_order}

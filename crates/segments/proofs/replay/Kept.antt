@@ -1,4 +1,4 @@
--- The bytes from which a replay gives items: what a reader has of them at hand, and where they end.
+-- Items among the bytes that a replay has at hand.
 use Rattle.std.proofs.Common.{◌≡◌, inl, inr, ℕ, ◌+◌, ◌*◌, ◌/◌, ◌%◌, ◌<◌, ◌≤◌, ap, arith}
 use Rattle.std.proofs.lemmas.Bool.{cases_lt}
 use Rattle.std.proofs.lemmas.Nat.{mul-le}

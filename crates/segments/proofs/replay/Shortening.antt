@@ -1,4 +1,4 @@
--- A replay cuts a section that it has gone over once more: it is a replay still, also where the cut fails.
+-- A section that was cut back, by another name of the length.
 use Rattle.std.specs.Prelude.{◌≡◌, ℕ, List}
 use Rattle.std.proofs.Common.{subst}
 use Rattle.blob_device.specs.Disk.{Blob}

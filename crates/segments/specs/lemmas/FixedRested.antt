@@ -1,4 +1,5 @@
--- Which blobs stay as they were at every moment of a call that removes sections, or of a replay; and what follows of one that stays.
+-- A blob that a call neither cuts nor removes keeps its promise at every moment: of a call that removes sections, of a cut
+-- of all behind a byte, and of a replay.
 use Rattle.std.specs.Prelude.{◌≡◌, ℕ, ◌≤◌, List}
 use Rattle.std.proofs.Common.{inl, inr, sym, subst}
 use Rattle.blob_device.specs.Disk.{Key, Disk}

@@ -1,4 +1,4 @@
--- The function that gives the number at the start of some bytes says what the grammar says.
+-- The function that gives the number at the start of some bytes: which bytes it takes, and what its tests decide.
 use Rattle.std.proofs.Common.{◌≡◌, ℕ, ◌<◌, ◌≤◌, List, [], ◌∷◌, ◌++◌, length, take, drop, nat_lt, nat_le, Bool, true, false, ◌&&◌, Decides, if◌then◌else◌, Ok, arith, refl, sym, ap, ◌∙◌, subst, take-append-drop, length-append, length-take-le, true≢false}
 use Rattle.std.proofs.Math.Seq.{take-append_seam}
 use Rattle.std.specs.List.{list_all}

@@ -1,4 +1,4 @@
--- What the records of an archive are by their size, and which markers an image holds.
+-- Which markers an image holds, and whether they have a next version.
 use Rattle.std.proofs.Common.{◌≡◌, inl, inr, sym, ◌∙◌, ap, subst, ℕ, ◌+◌, ◌≤◌, ◌^◌, List, IsTrue, Ok, arith}
 use Rattle.std.proofs.lemmas.Bool.{cases_Bool}
 use Rattle.blob_device.specs.Disk.{Blob, Disk, Image, reads}

@@ -1,4 +1,4 @@
--- What an opening of an archive has kept: the state that it begins with.
+-- Sections that are not held have no records, and how long the others are.
 use Rattle.std.proofs.Common.{◌≡◌, inl, inr, sym, ◌∙◌, ap, ℕ, ◌/◌, ◌<◌, ◌≤◌, ◌^◌, [], length, map, Option, None, arith}
 use Rattle.std.proofs.lemmas.List.{length-map, nil_from_length}
 use Rattle.blob_device.specs.Disk.{Disk}

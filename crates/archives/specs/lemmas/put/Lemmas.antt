@@ -1,4 +1,4 @@
--- An archive to whose pair a record with its value was added, and to whose tables its row.
+-- The bytes of a section of an archive are whole records.
 use Rattle.std.proofs.Common.{◌≡◌, inl, inr, ◌∙◌, ap, ℕ, ◌%◌, length}
 use Rattle.blob_device.specs.Disk.{Disk}
 use Rattle.blob_device.specs.Opened.{OpenedList}

@@ -1,4 +1,4 @@
--- What one row more makes of the rows of an archive, and of its limits.
+-- Two numbers are the same, or not.
 use Rattle.std.proofs.Common.{◌≡◌, ◌≢◌, ◌⊎◌, inl, inr, refl, ℕ, Bool, true, false, ◌==◌, arith}
 use Rattle.std.proofs.lemmas.Bool.Decides.{nat_tests}
 

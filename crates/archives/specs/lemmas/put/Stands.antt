@@ -1,4 +1,4 @@
--- What a crash leaves of an archive while a put is under way.
+-- What a put makes of the state of an archive, where it is skipped and where it is not.
 use Rattle.std.proofs.Common.{◌≡◌, sym, ◌∙◌, ap, ℕ, List, map, Bool, true, false, ◌||◌, if◌then◌else◌, nat_lt}
 use Rattle.blob_device.specs.Disk.{Disk}
 use Rattle.sealed_pages.specs.declared.page_blob.PageBlob.{PageBlob}

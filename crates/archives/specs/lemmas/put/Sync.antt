@@ -1,4 +1,4 @@
--- A put, and then a sync.
+-- Of three archives, each filed as the one before, the last is filed as the first.
 use Rattle.std.proofs.Common.{◌∙◌}
 use Rattle.archives.specs.Filing.{Filing, IsSameFiling}
 

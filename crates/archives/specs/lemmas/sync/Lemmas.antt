@@ -1,4 +1,4 @@
--- What a sync of its pair makes of an archive, and what it leaves at each moment.
+-- A section's list is as long as the section counts.
 use Rattle.std.proofs.Common.{◌≡◌, ◌∙◌, ap, ℕ, ◌/◌, length}
 use Rattle.std.proofs.lemmas.List.{length-map}
 use Rattle.blob_device.specs.Disk.{Disk}

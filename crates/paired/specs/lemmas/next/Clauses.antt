@@ -1,4 +1,4 @@
--- What `next` of a pair's replay promises, of what the replay shows before and after it, for each of its answers.
+-- What `next` of a pair's replay promises, as two bundles: of images and lists, and the other clauses.
 use Rattle.std.specs.Prelude.{◌≡◌, ◌⊎◌, ℕ, ◌+◌, ◌*◌, ◌^◌, ◌<◌, ◌≤◌, ⊤, true, false, List, length, Option, None, Some, Result, Ok, Err}
 use Rattle.blob_device.specs.Disk.{Key, reads}
 use Rattle.blob_device.specs.Opened.{OpenedList, reads_of}

@@ -1,4 +1,4 @@
--- A replay of a pair as the program has it, from what it shows.
+-- The run that a replay of a pair shows, before and after a call of `next`, in one spelling.
 use Rattle.std.specs.Prelude.{◌≡◌, ℕ, ◌≤◌, List, Bool, true, string_bytes}
 use Rattle.std.specs.BTreeMap as tree
 use Rattle.std.specs.Ordering.{nat_cmp}

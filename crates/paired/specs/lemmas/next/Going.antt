@@ -1,4 +1,4 @@
--- A replay of a pair after some turns that skipped their records, and after one more: what `next` answers, from where it began.
+-- A replay of a pair after some turns that skipped their records: how it stands, against where it began.
 use Rattle.std.specs.Prelude.{◌≡◌, ◌⊎◌, ◌↔◌, ℕ, ◌+◌, ◌^◌, ◌<◌, ◌≤◌, ⊤, Bool, false, Option}
 use Rattle.std.proofs.Common.{refl, arith}
 use Rattle.blob_device.specs.Disk.{Key, reads}

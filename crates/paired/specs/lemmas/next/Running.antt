@@ -1,4 +1,4 @@
--- A replay of a pair after some calls of `next`, from what they did to the walk over its records: it may be used as before.
+-- The run of a pair's replay, with another walk.
 use Rattle.std.specs.Prelude.{ℕ, Bool, Option}
 use Rattle.segments.specs.FixedReplay.{Walk}
 use Rattle.paired.specs.Replaying.{Limits, Run}

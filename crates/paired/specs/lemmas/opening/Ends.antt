@@ -1,4 +1,4 @@
--- The end of an opening by markers: which records stand, and that what it cuts, removes and writes leaves each crash with the same lists.
+-- The end of an opening by markers: which records stand, and when an image keeps the same lists as an older one.
 use Rattle.std.specs.Prelude.{◌≡◌, ◌⊎◌, ℕ, zero, suc, ◌+◌, ◌-◌, ◌^◌, ◌<◌, ◌≤◌, ◌||◌, nat_lt, if◌then◌else◌, Bool, true, false, List, [], ◌∷◌, length, map, take, get_or, IsTrue, IsSome, Option, unwrap_or}
 use Rattle.std.proofs.Common.{inl, inr, refl, sym, ◌∙◌, ap, subst, arith, length-take, length-take-le}
 use Rattle.std.specs.Int.{w64, to_be_bytes}
@@ -35,7 +35,7 @@ module _ (sound : List ℕ → Bool) (marker : ℕ) where
   abbrev pub IsGoodAt : ℕ → List (List ℕ) → ℕ → Type 0
   IsGoodAt position rs q = (position + q < marker) ⊎ IsTrue (sound (get_or rs q []))
 
-  -- The prefix stops at p: there is no such record, or it is at or above the marker and its value fails.
+  -- What is kept stops at p: there is no such record, or it is at or above the marker and its value fails.
   abbrev pub StopsAt : ℕ → List (List ℕ) → ℕ → Type 0
   StopsAt position rs p = (p ≡ length rs) ⊎ ((marker ≤ position + p) × (sound (get_or rs p []) ≡ false))
 
@@ -68,7 +68,7 @@ module _ (sound : List ℕ → Bool) (marker : ℕ) where
   pub prefix_all : (rs : List (List ℕ)) → ((q : ℕ) → q < length rs → IsGoodAt 0 rs q) → unbroken_prefix sound marker 0 rs ≡ rs
   prefix_all rs good = prefix_stops 0 (length rs) rs (omega arith) good (inl refl) ∙ take_all (length rs) rs (omega arith)
 
-  -- of the first records that reach to where the prefix stops the same are kept
+  -- of the first records that reach to where it stops the same are kept
   pub prefix_cut : (p k : ℕ) (rs : List (List ℕ)) → p ≤ k → k ≤ length rs → p < length rs → ((q : ℕ) → q < p → IsGoodAt 0 rs q) → marker ≤ p → sound (get_or rs p []) ≡ false
       → unbroken_prefix sound marker 0 (take k rs) ≡ unbroken_prefix sound marker 0 rs
   prefix_cut p k rs le few more good high bad =

@@ -278,7 +278,7 @@ module _ (l : Layout) (apart : AreApart l) (from d : Disk) (IsChanged : ℕ → 
       pub leaves : pages.Leaves l.seal l.page_size (sealed_prefix l.seal l.page_size (content_at (as_read from) l.index s)) (p * l.record_size) (d (section_key l.index s))
       pub values : (left : Option (List ℕ)) → MayLeave (d (section_key l.values s)) left → unwrap_or left [] ≡ content_at (as_read from) l.values s
 
-    -- It is cut to p records, where the prefix of those that it reads as stops by the marker.
+    -- It is cut to p records, where what is kept by the marker stops.
     pub record IsShortened (marker s : ℕ) : Type 0 where
       pub p : ℕ
       pub within : p < length (stored_records l (as_read from) s)

@@ -1,4 +1,4 @@
--- Why an opening refuses, against a lawful image: the last record below a marker, and no marker of a lawful image is refused.
+-- Where the records of a section end, and the last of them. What adopting a blob finds has a length in range.
 use Rattle.std.specs.Prelude.{◌≡◌, ℕ, zero, suc, ◌+◌, ◌-◌, ◌*◌, ◌/◌, ◌^◌, ◌<◌, ◌≤◌, Bool, List, [], length, get_or}
 use Rattle.std.proofs.Common.{refl, sym, ◌∙◌, ap, arith}
 use Rattle.std.proofs.lemmas.List.{take_all}

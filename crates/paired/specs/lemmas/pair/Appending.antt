@@ -146,7 +146,7 @@ module _ (l : Layout) (pos : 1 ≤ l.record_size) (f : Facts) (good : AreGood l 
   unfolding append_good
   append_tight tight few = omega (arith, tight, ap (λ (p : ℕ × ℕ). p.1) here, length-append f.values (frame l.seal spelled))
 
-  -- what is at the start of the list with the record is at the start of it
+  -- the new list is the one with the record, or a prefix of that
   pub append_prefix : take (length (list_in l appended)) (list_in l f ++ record { stored = r; value = spelled } ∷ []) ≡ list_in l appended
   append_prefix = ap (take (length (list_in l appended))) (sym append_list) ∙ take-length (list_in l appended)
 

@@ -1,4 +1,4 @@
--- How the blobs of one section of a pair stand: while they are made, while they are removed, and between calls.
+-- How the blobs of one section of a pair stand while they are removed, and between calls.
 use Rattle.std.proofs.Common.{◌≡◌, inl, inr, ℕ, ◌≤◌, Bool, true, false, ◌||◌, List, [], length, take, IsTrue, Option, None, Some, IsSomeAnd, unwrap_or, refl, sym, ap, subst, arith, length-take}
 use Rattle.std.proofs.lemmas.List.{nil_from_length}
 use Rattle.blob_device.specs.Disk.{Blob, nothing}

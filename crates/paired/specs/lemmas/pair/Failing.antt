@@ -1,4 +1,4 @@
--- What the calls of a pair answer where one of their parts failed.
+-- A count that rose since a later moment rose since an earlier one.
 use Rattle.std.proofs.Common.{ℕ, ◌≤◌, arith}
 use Rattle.blob_device.specs.Counts.{Rose}
 

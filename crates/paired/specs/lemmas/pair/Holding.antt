@@ -1,4 +1,4 @@
--- What a crash leaves of a pair, from what it may leave its blobs as.
+-- What a crash leaves of a pair, from what it may leave its blobs as: of one section, then of all.
 use Rattle.std.proofs.Common.{◌≡◌, ◌⊎◌, inl, inr, ℕ, ◌/◌, ◌^◌, ◌<◌, ◌≤◌, Bool, true, false, nat_lt, if◌then◌else◌, List, [], length, map, take, IsTrue, Option, None, Some, IsSome, unwrap_or, refl, sym, ◌∙◌, ap, subst, arith}
 use Rattle.std.specs.Int.{w64, to_be_bytes}
 use Rattle.std.specs.List.{AllByRecursion}

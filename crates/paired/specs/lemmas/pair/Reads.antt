@@ -1,4 +1,4 @@
--- What a pair's readers answer: the entry at a position of a section's list, the end of its last value, and that a pair stays one where blobs are only read.
+-- Where the records and values of a pair's section stand: the entry at a position, and the end of its last value.
 use Rattle.std.proofs.Common.{◌≡◌, ◌⊎◌, inl, inr, ℕ, zero, suc, ◌+◌, ◌-◌, ◌/◌, ◌^◌, ◌<◌, ◌≤◌, ◌↔◌, List, [], ◌∷◌, length, take, drop, slice_get, Option, None, Some, IsSomeAnd, Result, Ok, Err, IfOk, OnOk, IsTrue, refl, sym, ◌∙◌, ap, subst, arith}
 use Rattle.std.specs.Int.{w32, to_be_bytes, from_be_bytes}
 use Rattle.std.specs.Option.{option_map}

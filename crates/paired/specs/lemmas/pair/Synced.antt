@@ -1,4 +1,4 @@
--- A pair some of whose sections were synced, first their records, then their values: it may be used, is as sound as it was, and has its lists.
+-- Where the parts of a pair are, and that a section without a marker counts as marked with 0.
 use Rattle.std.proofs.Common.{◌≡◌, inl, inr, ℕ, ◌^◌, ◌≤◌, if◌then◌else◌, Bool, List, Option, None, Some, unwrap_or, IsTrue, refl, ◌∙◌, ap}
 use Rattle.std.specs.Int.{w64, to_be_bytes}
 use Rattle.std.specs.Map.{lookup}

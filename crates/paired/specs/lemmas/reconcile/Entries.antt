@@ -1,4 +1,4 @@
--- What the calls at the end of an opening leave of the list of opened blobs; and the replay at its end, from what the calls before say.
+-- The replay at its end, from what the calls before say.
 use Rattle.std.proofs.Common.{◌≡◌, ℕ, ◌≤◌, true, List, refl}
 use Rattle.blob_device.specs.Disk.{Disk}
 use Rattle.blob_device.specs.Opened.{OpenedList}

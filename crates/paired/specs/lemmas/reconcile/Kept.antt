@@ -1,4 +1,4 @@
--- What the end of an opening keeps: where the values of the given records are in place, the pair is sound and its lists are what the disk kept.
+-- A value that is sound in the first bytes is sound in all.
 use Rattle.std.proofs.Common.{ℕ, List, length, take, IsTrue, sym, ap, subst, arith}
 use Rattle.std.proofs.lemmas.List.{take_all}
 use Rattle.section_manager.specs.Prefixes.{IsPrefixOf}

@@ -1,4 +1,4 @@
--- What the calls at the end of an opening leave of a pair of which all has settled: each crash keeps what it kept before.
+-- Where the copies of a settled pair's markers stay, each lawful image has the same markers.
 use Rattle.std.proofs.Common.{◌≡◌, inl, inr, ℕ, not, Bool, false, List, IsTrue, Option, Some, refl, sym, ◌∙◌, ap, subst}
 use Rattle.std.proofs.lemmas.Bool.{cases_Bool}
 use Rattle.blob_device.specs.Disk.{Blob, Disk, Image, IsCrashOf, MayLeave, reads}

@@ -1,4 +1,4 @@
--- From adopting to the first flush: what is kept, and when it is ready for bytes.
+-- An adopted blob before its first flush: what is kept, and the slots of its last page.
 use Rattle.std.proofs.Common.{◌≡◌, ◌≢◌, ◌⊎◌, inl, inr, ℕ, ◌+◌, ◌*◌, ◌<◌, ◌≤◌, not, Bool, true, false, cond, List, refl, sym, ◌∙◌, ap, subst, arith}
 use Rattle.std.proofs.lemmas.Bool.{cases_lt, cases_order, eq-eqb, ne_eqb}
 use Rattle.blob_device.specs.Disk.{Blob}

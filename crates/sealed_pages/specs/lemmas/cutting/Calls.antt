@@ -1,4 +1,4 @@
--- The calls of a cut: a change of a settled blob, and a sync.
+-- What is claimed of fewer bytes, or of the first of them, at each moment.
 use Rattle.std.proofs.Common.{ℕ, ◌≤◌, List, length, take, Option, Some, None, IsSomeAnd, ◌∙◌, arith, length-take}
 use Rattle.blob_device.specs.Disk.{Key, Blob, past}
 use Rattle.blob_device.specs.Timeline.{Timeline, disk}

@@ -1,4 +1,4 @@
--- A buffer that is cut: what it holds before and after.
+-- A buffer whose bytes have all settled: they are the blob's sealed prefix.
 use Rattle.std.proofs.Common.{◌≡◌, inl, inr, ℕ, ◌+◌, ◌*◌, ◌<◌, ◌≤◌, ◌||◌, List, length, sym, ◌∙◌, ap, subst, arith}
 use Rattle.std.proofs.lemmas.Bool.{cases_Bool}
 use Rattle.blob_device.specs.Disk.{Blob}
@@ -13,7 +13,7 @@ use Rattle.sealed_pages.specs.lemmas.adopted.Adopt.{sealed_covers}
 use Rattle.sealed_pages.specs.lemmas.slots.SealedBytes.{sound_to}
 use Rattle.sealed_pages.specs.lemmas.slots.Steps.{below_sound, quiet_below, tidy_sound}
 
--- once all is settled, the bytes are the sealed prefix of what has settled
+-- once all is settled, the bytes are the sealed prefix of the blob
 pub holds_rest : (seal : List ℕ → ℕ) (u : Buffer) (all : List ℕ) (b : Blob) → u.from < u.page_size → Holds seal u all b → u.settled ≡ size_of u → u.from ≡ length u.tip → StandsSettled b
 holds_rest seal u all b begun holds settled full = elim (cases_Bool (u.behind || u.torn)) [
   | inl left ↦ (holds.state.adopted left).0.is

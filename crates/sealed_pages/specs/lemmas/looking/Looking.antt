@@ -1,4 +1,4 @@
--- Reading slots, and calls that only read.
+-- The length that a slot says of its page, in a blob and in a page by itself; and calls that only look.
 use Rattle.std.proofs.Common.{◌≡◌, ◌≢◌, ◌⊎◌, inl, inr, ℕ, suc, ◌+◌, ◌-◌, ◌*◌, ◌^◌, ◌<◌, ◌≤◌, leb, eqb, min, max, Bool, true, false, cond, List, ◌++◌, length, drop, Result, Ok, Err, Option, Some, None, IsSomeAnd, refl, sym, ◌∙◌, ap, arith, length-take, length-drop}
 use Rattle.std.specs.Prelude.{IfSome}
 use Rattle.std.specs.Int.{w16, w32, from_be_bytes}

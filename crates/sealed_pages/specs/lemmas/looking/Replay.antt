@@ -1,4 +1,4 @@
--- The bytes that a reader has at hand.
+-- The bytes that a reader has at hand, and which pages it reads for more.
 use Rattle.std.proofs.Common.{◌≡◌, inl, inr, ℕ, ◌+◌, ◌-◌, ◌*◌, ◌/◌, ◌<◌, ◌≤◌, min, List, ◌++◌, length, get_or, take, drop, refl, sym, ◌∙◌, ap, subst, arith, length-drop, length-append, length-take, ◌%◌}
 use Rattle.std.proofs.Math.Nat.{div-mul-le_self, mod-eq-sub-div-mul, lt-div-mul-add}
 use Rattle.sealed_pages.specs.Readers.{IsTipOf}

@@ -1,4 +1,4 @@
--- Pages that are held in memory.
+-- What holds of each page in memory holds of the one that is found.
 use Rattle.std.proofs.Common.{◌≡◌, ℕ, zero, suc, ◌+◌, ◌≤◌, Bool, true, false, cond, List, nat_eq, Option, Some, None, refl, sym, ap, subst, arith}
 use Rattle.std.specs.List.{All, list_any}
 use Rattle.std.specs.Map.{lookup, keys_of}

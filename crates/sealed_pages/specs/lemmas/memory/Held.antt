@@ -1,4 +1,4 @@
--- Which bytes of a buffer are in memory.
+-- The bytes of a buffer are in memory where the wanted pages below its tip are.
 use Rattle.std.proofs.Common.{◌≡◌, inl, inr, ℕ, ◌+◌, ◌*◌, ◌/◌, ◌<◌, ◌≤◌, max, true, sym, ◌∙◌, ap, arith}
 use Rattle.std.proofs.lemmas.Bool.{cases_lt}
 use Rattle.sealed_pages.specs.Buffer.{Buffer, size_of, is_cached}

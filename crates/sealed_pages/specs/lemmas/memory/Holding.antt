@@ -1,4 +1,4 @@
--- What a buffer holds, after a flush and after an append.
+-- What a buffer holds outlives a crash, and how many bytes it means.
 use Rattle.std.proofs.Common.{◌≡◌, inl, inr, ℕ, ◌+◌, ◌-◌, ◌*◌, ◌/◌, ◌^◌, ◌<◌, ◌≤◌, ◌||◌, List, length, sym, subst, arith, length-append}
 use Rattle.std.proofs.Math.Nat.{div-lt_iff_lt-mul}
 use Rattle.std.proofs.lemmas.Bool.{cases_Bool}

@@ -1,4 +1,4 @@
--- What calls on one blob add to the contents that it has had since it settled.
+-- What the contents of a blob have, before calls and added by them, each content has.
 use Rattle.std.proofs.Common.{ℕ, List, [], ◌∷◌, ◌++◌, Result}
 use Rattle.std.specs.List.{AllByRecursion, Contains}
 use Rattle.std.proofs.lemmas.List.Elements.{All-from_recursion, All-contains}

@@ -1,4 +1,4 @@
--- The bytes of a buffer without seals that settled and were not written since.
+-- No place is in a run of no bytes.
 use Rattle.std.proofs.Common.{◌≡◌, ◌⊎◌, inl, inr, ℕ, ◌+◌, ◌<◌, ◌≤◌, List, [], ◌∷◌, length, sym, subst, arith}
 use Rattle.std.proofs.lemmas.Bool.{cases_lt}
 use Rattle.blob_device.specs.Disk.{Outside}

@@ -1,4 +1,4 @@
--- Calls on one blob, and the places that they spare.
+-- How what calls on one blob spare goes on over calls.
 use Rattle.std.proofs.Common.{◌≡◌, ℕ, ◌<◌, ◌≤◌, Bool, true, not, ◌||◌, List, get_or, Result, Ok, Err, Option, Some, None, IsSomeAnd, refl, sym, ◌∙◌, ap, subst, arith}
 use Rattle.blob_device.specs.declared.error.DevError.{DevError}
 use Rattle.blob_device.specs.Disk.{Key, Blob, Outside, MayLeave}

@@ -1,4 +1,4 @@
--- What stays unflushed behind an append.
+-- How many bytes of the run an append joins.
 use Rattle.std.proofs.Common.{◌≡◌, ◌⊎◌, inl, inr, ◌+◌, ◌<◌, ◌≤◌, leb, length, ◌∙◌, sym, arith}
 use Rattle.std.proofs.lemmas.Bool.{cases_lt, cond-true, cond-false, leb-true, le-leb, false_from_ne_true}
 use Rattle.sealed_pages.specs.Tails.{run_at_end}

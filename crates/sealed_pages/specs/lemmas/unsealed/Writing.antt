@@ -1,4 +1,4 @@
--- A buffer over a blob without seals, after each of its calls of the device.
+-- A buffer over a blob without seals that has nothing to flush: its bytes are the content.
 use Rattle.std.proofs.Common.{◌≡◌, ℕ, ◌≤◌, ◌||◌, not, eqb, leb, Bool, true, false, List, [], ◌∷◌, length, refl, ◌∙◌, ap, arith}
 use Rattle.std.proofs.lemmas.Bool.{and_parts, eqb-true, leb-true}
 use Rattle.blob_device.specs.Change.{written}

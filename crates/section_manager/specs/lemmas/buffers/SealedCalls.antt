@@ -1,4 +1,4 @@
--- What the calls of a buffer whose pages carry seals leave of its section.
+-- An answer for want of memory or by the device names no damaged page.
 use Rattle.std.proofs.Common.{◌≡◌, ◌≢◌, ◌⊎◌, inl, inr, ℕ, Result, Ok, Err}
 use Rattle.std.specs.Prelude.{OnErr}
 use Rattle.blob_device.specs.declared.runtime.RError.{RError}

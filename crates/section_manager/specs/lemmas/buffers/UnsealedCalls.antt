@@ -1,4 +1,4 @@
--- What the calls of a buffer without seals leave of its section at each moment.
+-- What each crash leaves of a buffer without seals, where its calls make prefixes of its bytes alone.
 use Rattle.std.proofs.Common.{◌≡◌, ◌⊎◌, inl, inr, ℕ, zero, suc, ◌+◌, ◌<◌, ◌≤◌, false, List, [], ◌∷◌, length, take, Option, Some, None, IsSomeAnd, refl, sym, ap, subst, arith}
 use Rattle.std.specs.Prelude.{⊤}
 use Rattle.std.specs.List.{AllByRecursion}

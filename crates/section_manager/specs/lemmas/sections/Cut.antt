@@ -1,4 +1,4 @@
--- What cuts of sections make of a manager.
+-- What cuts of sections, one after another, make of a manager, and what they leave of its blobs.
 use Rattle.std.specs.Prelude.{◌≡◌, ◌≢◌, ◌⊎◌, ℕ, ◌<◌, ◌≤◌, min, false, List, take, Option, None, Some, IsSome, IsSomeAnd}
 use Rattle.std.proofs.Common.{[], ◌∷◌, ◌++◌, inl, inr, refl, sym, ◌∙◌, ap, subst, arith}
 use Rattle.std.specs.List.{Contains}

@@ -1,4 +1,4 @@
--- What calls leave of the list of opened blobs.
+-- Calls on one blob that start no read, by the list of opened blobs.
 use Rattle.std.proofs.Common.{◌≡◌, ◌≤◌, inl, inr, ℕ, Option, Some, None, IsSomeAnd, sym, ap, subst, arith}
 use Rattle.blob_device.specs.Disk.{Key}
 use Rattle.blob_device.specs.Opened.{Opened, OpenedList, reads_of}

@@ -1,4 +1,4 @@
--- What removing sections, one after another, leaves of the manager, of its blobs and of the list of opened blobs.
+-- Which sections are doomed, known and gone, before and after others are removed.
 use Rattle.std.specs.Prelude.{◌≡◌, ◌⊎◌, ℕ, Option, None, Some, IsSome}
 use Rattle.std.proofs.Common.{inl, inr, refl, sym, ◌∙◌, subst}
 use Rattle.section_manager.specs.declared.manager.removing.Doomed.{Doomed}

@@ -1,4 +1,4 @@
--- What one call on the buffer of one section makes of a manager, and what syncs do.
+-- The laws of a buffer of which a manager's syncs make use.
 use Rattle.std.specs.Prelude.{◌≡◌, ℕ, ◌≤◌, false, List, length}
 use Rattle.blob_device.specs.Disk.{Blob}
 use Rattle.sealed_pages.specs.Cutting.{StandsSettled}

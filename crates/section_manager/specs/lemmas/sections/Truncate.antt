@@ -1,4 +1,4 @@
--- What removing the later sections, and then shortening one, leaves of the blobs.
+-- Two calls one after the other that start no read.
 use Rattle.std.proofs.Common.{arith}
 use Rattle.blob_device.specs.Opened.{OpenedList}
 use Rattle.section_manager.specs.Entries.{StartsNoRead}

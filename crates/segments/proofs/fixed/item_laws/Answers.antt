@@ -1,4 +1,5 @@
--- A content without bytes has no slot; a blob that no call touches stands as its buffer says.
+-- A content without bytes has no slot; a blob that no call touches, or that a call leaves as it is, stands as its
+-- buffer says.
 use Rattle.std.proofs.Common.{sym, subst, arith}
 use Rattle.std.specs.Prelude.{ℕ, ◌<◌, List, length}
 use Rattle.blob_device.specs.Disk.{Blob, Disk}

@@ -1,4 +1,4 @@
--- How an append to a fixed journal ends, from what its manager and the section's buffer answered.
+-- An append to a fixed journal that failed, from what its manager and the section's buffer answered.
 use Rattle.std.proofs.Common.{◌≡◌, ◌≢◌, ◌⊎◌, ◌↔◌, ◌∙◌, inl, ℕ, ◌+◌, ◌^◌, ◌<◌, ◌≤◌, List, ◌++◌, length, None, Some, Err, refl, sym, ap, subst, arith}
 use Rattle.std.specs.Result.{IsErrOf}
 use Rattle.blob_device.specs.Change.{Make, done}

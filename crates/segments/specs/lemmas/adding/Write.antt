@@ -1,4 +1,4 @@
--- What a fixed journal keeps of one section, and what syncs of a fixed journal make of it and leave of its blobs.
+-- What a fixed journal keeps of one section, and that it is a journal where it keeps that of each.
 use Rattle.std.proofs.Common.{◌≡◌, ◌⊎◌, inl, inr, ℕ, ◌%◌, ◌<◌, min, Bool, true, false, List, length, Option, None, Some, IsSome, IsSomeAnd, IsTrue, refl, sym, ◌∙◌, ap, subst, arith}
 use Rattle.std.proofs.lemmas.Bool.{cases_eq}
 use Rattle.blob_device.specs.Disk.{Key, Blob, Disk, past}

@@ -1,4 +1,4 @@
--- What a call of a fixed journal that fails passes on of the call below it.
+-- The error of a call of a fixed journal, passed on by the call above it: the same cause.
 use Rattle.std.proofs.Common.{◌≡◌, ◌⊎◌, ◌↔◌, inl, inr, ℕ, Result, Ok, Err, OnErr}
 use Rattle.std.specs.Result.{IsErrOf}
 use Rattle.section_manager.specs.declared.journal.Error.{Error}

@@ -1,4 +1,4 @@
--- A replay of a fixed journal where it begins.
+-- Which sections a replay gives from their first item on, and that those are sealed when it has finished.
 use Rattle.std.specs.Prelude.{◌≡◌, ◌⊎◌, ℕ, ◌%◌, ◌<◌, ◌≤◌, eqb, cond, Bool, true, false, List, Some}
 use Rattle.std.proofs.Common.{inl, inr, refl, sym, ◌∙◌, subst, arith}
 use Rattle.std.proofs.lemmas.Bool.{cases_lt, cases_order}

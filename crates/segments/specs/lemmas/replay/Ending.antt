@@ -1,4 +1,4 @@
--- A replay of a fixed journal comes to a section, or to its end: the steps that these are.
+-- What is ahead of a number is ahead of a greater one.
 use Rattle.std.specs.Prelude.{ℕ, ◌≤◌, IsSomeAnd, Option, None, Some}
 use Rattle.std.proofs.Common.{arith}
 

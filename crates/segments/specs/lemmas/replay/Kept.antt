@@ -1,4 +1,4 @@
--- The bytes from which a replay gives items: what a reader has of them at hand, and where they end.
+-- The bytes from which a replay gives items: the sealed prefix, or all of a flushed buffer.
 use Rattle.std.proofs.Common.{◌≡◌, inl, inr, ℕ, ◌+◌, ◌*◌, ◌<◌, ◌≤◌, List, length, take, drop, refl, sym, ◌∙◌, ap, subst, arith, length-take, length-drop}
 use Rattle.std.proofs.lemmas.Bool.{cases_lt}
 use Rattle.sealed_pages.specs.lemmas.Reaching.{own_prefix}

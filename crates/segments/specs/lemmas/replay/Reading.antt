@@ -1,4 +1,4 @@
--- A replay of a fixed journal reads on in its section: what is at hand then, and the step over one item.
+-- An error of a replay is one since an earlier count of faults too.
 use Rattle.std.specs.Prelude.{ℕ, ◌≤◌, Result}
 use Rattle.std.proofs.Common.{inl, inr}
 use Rattle.sealed_pages.specs.lemmas.cutting.Truncating.{rose_since}
