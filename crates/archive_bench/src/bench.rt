@@ -183,7 +183,7 @@ where
 {
     let mut archive = archive;
     for index in 0..plan.puts {
-        archive = prefix_pruned(archive, dev, index, plan.sections)?;
+        archive = oldest_pruned(archive, dev, index, plan.sections)?;
         archive = put_one(archive, alloc, dev, index, costs)?;
         if index % SYNC_EVERY == SYNC_EVERY - 1 {
             archive = synced(archive, dev)?;
@@ -217,7 +217,7 @@ where
 
 // Where an index is the first of its section, prunes the archive, so that with this section no more than so
 // many are held. The calls of that are counted apart.
-fn prefix_pruned<A, D: Phased>(
+fn oldest_pruned<A, D: Phased>(
     archive: A,
     dev: &mut D,
     index: u64,

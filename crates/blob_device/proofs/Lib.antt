@@ -11,5 +11,4 @@ pub mod MixedLemmas
 pub mod NamesLemmas
 pub mod Numbers
 pub mod Pieces
-pub mod Places
 pub mod Replay

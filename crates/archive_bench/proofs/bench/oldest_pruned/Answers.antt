@@ -1,6 +1,6 @@
 use Rattle.std.proofs.Common.{◌≤◌, length}
 use Rattle.archive_bench.proofs.PhaseLemmas.{still_usable}
-use Rattle.archive_bench.proofs.bench.prefix_pruned.Goals as goal
+use Rattle.archive_bench.proofs.bench.oldest_pruned.Goals as goal
 
 pub pruned-requires : goal.pruned-requires
 pruned-requires g c = record { usable = still_usable g.A.Archive.meaning g.D.Device _ _ _ c.turn.ensures.time c.turn.ensures.opened c.requires.usable }

@@ -1,1 +1,0 @@
--- What stands at a place after a write or a resize.
