@@ -13,7 +13,7 @@ pub enum Said {
     /// A seal or a hash.
     Digits(u32),
     /// The number at the start of bytes, and how many of them it takes.
-    Length(u64, usize),
+    Leading(u64, usize),
     /// What was written of a value behind a byte, and its size; the value was read again.
     Spelled(Vec<u8>, u64),
 }
@@ -48,7 +48,7 @@ pub fn text_of(alloc: Global, answer: &Result<Said, Stop>) -> Result<String, All
         Ok(Said::Signed(number)) => format!(in alloc; "{number}"),
         Ok(Said::Bytes(bytes)) => digits(alloc, bytes),
         Ok(Said::Digits(number)) => format!(in alloc; "{number:08x}"),
-        Ok(Said::Length(number, len)) => format!(in alloc; "{number} {len}"),
+        Ok(Said::Leading(number, len)) => format!(in alloc; "{number} {len}"),
         Ok(Said::Spelled(bytes, size)) => {
             let written = digits(alloc, bytes)?;
             format!(in alloc; "{written} {size} again")

@@ -22,8 +22,8 @@ pub fn read(alloc: Global, step: &Step) -> Result<Said, Stop> {
     let bytes = bytes(alloc, step, 0)?;
     if step.word() == "read-varint64" {
         let (number, len) = read_varint64(&bytes)?;
-        return Ok(Said::Length(number, len));
+        return Ok(Said::Leading(number, len));
     }
     let (number, len) = read_varint32(&bytes)?;
-    Ok(Said::Length(u64::from(number), len))
+    Ok(Said::Leading(u64::from(number), len))
 }
