@@ -31,9 +31,9 @@ prefix_order = record {
 
 pub up_to_order : (section least : ℕ) → IsOrder (UpTo section least)
 up_to_order section least = record {
-  itself = λ s list. record { unbroken_prefix = sym (take_all (length list) list (omega arith)); before = λ lt. refl; here = λ is. omega arith };
+  itself = λ s list. record { prefix = sym (take_all (length list) list (omega arith)); before = λ lt. refl; here = λ is. omega arith };
   onward = λ s last found list more first. record {
-    unbroken_prefix = prefix_onward last found list more.prefix first.prefix;
+    prefix = prefix_onward last found list more.prefix first.prefix;
     before = λ lt. more.before lt ∙ first.before lt;
     here = λ is. omega (arith, more.here is, first.here is);
   };
@@ -68,7 +68,7 @@ module _ (view : List ℕ → Entry) (sound : List ℕ → Bool) (marker : ℕ) 
 
   pub cut_up_to : (section least s k : ℕ) → section ≤ s → (s ≡ section → least ≤ k) → UpTo section least s (map view (unbroken_prefix sound marker 0 (take k rs))) (map view (unbroken_prefix sound marker 0 rs))
   cut_up_to section least s k behind enough = record {
-    unbroken_prefix = cut_prefix s k;
+    prefix = cut_prefix s k;
     before = λ lt. absurd (omega (arith, lt, behind));
     here = λ is. omega (arith, enough is, ap length (cut_first k), length-take k (map view (unbroken_prefix sound marker 0 rs)));
   }
