@@ -1,5 +1,5 @@
 -- Sections that are cut: to how many records each, what is known of that, and what stands between the cut of records and that of their values.
-use Rattle.std.proofs.Common.{◌≡◌, ◌↔◌, ◌⊎◌, ℕ, ◌*◌, ◌^◌, ◌<◌, ◌≤◌, min, false, List, length, map, take, Option, None, Some, IsSome, IsSomeAnd, refl, subst, arith}
+use Rattle.std.proofs.Common.{◌≡◌, ◌↔◌, ℕ, ◌*◌, ◌^◌, ◌<◌, ◌≤◌, min, false, List, length, map, take, Option, None, Some, IsSome, IsSomeAnd, refl, subst, arith}
 use Rattle.std.specs.Option.{option_map}
 use Rattle.blob_device.specs.Disk.{Key, Disk, MayLeave, reads, nothing}
 use Rattle.blob_device.specs.Opened.{OpenedList}
