@@ -1,5 +1,5 @@
 -- What each call of the end of an opening says of the sections that are cut, and what stands between two of these calls.
-use Rattle.std.proofs.Common.{◌≡◌, ◌↔◌, ◌⊎◌, ℕ, ◌*◌, ◌^◌, ◌<◌, ◌≤◌, min, false, List, length, map, take, Option, None, Some, IsSome, IsSomeAnd, refl, subst, arith}
+use Rattle.std.proofs.Common.{◌≡◌, ◌↔◌, ℕ, ◌*◌, ◌^◌, ◌<◌, ◌≤◌, min, false, List, length, map, take, Option, None, Some, IsSome, IsSomeAnd, refl, subst, arith}
 use Rattle.std.specs.Option.{option_map}
 use Rattle.blob_device.specs.Disk.{Key, Disk, MayLeave, reads, nothing}
 use Rattle.blob_device.specs.Opened.{OpenedList}

@@ -30,7 +30,7 @@ use Rattle.paired.specs.Crashes.{IsIndexOf, NoChanceSeal}
 use Rattle.paired.specs.Kept.{Layout, Markers, IsMarked, marker_of, content_at, stored_records, is_sound_in}
 use Rattle.paired.specs.Opening.{as_read, APrefix, MayBeOpened, RecallsBy}
 use Rattle.paired.specs.Pair.{AreApart}
-use Rattle.paired.specs.Records.{records, entry_of, unbroken_prefix}
+use Rattle.paired.specs.Records.{records, entry_of}
 use Rattle.paired.proofs.opening.Ends.{prefix_order, cut_prefix}
 use Rattle.paired.proofs.pair.Holding.{leaves_more}
 use Rattle.paired.proofs.Steps.{Step}

@@ -1,12 +1,11 @@
 -- Where the values of sections with records end, and what is left of a glob that is cut there.
-use Rattle.std.specs.Prelude.{◌≡◌, ◌≢◌, ◌⊎◌, ◌↔◌, ℕ, ◌<◌, ◌≤◌, min, ⊤, false, List, [], ◌∷◌, take, Option, None, Some, IsSome, IsSomeAnd, Result, Ok, Err, OnErr}
+use Rattle.std.specs.Prelude.{◌≡◌, ◌≢◌, ◌⊎◌, ◌↔◌, ℕ, ◌<◌, ◌≤◌, min, ⊤, false, List, [], ◌∷◌, take, Option, None, Some, IsSome, IsSomeAnd, Result, Err}
 use Rattle.std.proofs.Common.{inl, inr, refl, sym, ◌∙◌, ap, subst, arith}
 use Rattle.std.specs.List.{Contains}
 use Rattle.std.specs.Option.{option_map}
-use Rattle.std.specs.Result.{IsErrOf}
 use Rattle.std.proofs.lemmas.Bool.{cases_lt, cases_eq}
 use Rattle.std.proofs.lemmas.List.Elements.{Contains-append_right, Contains-append_cases, Contains-push_cases}
-use Rattle.blob_device.specs.Disk.{Key, Blob, Disk, past}
+use Rattle.blob_device.specs.Disk.{Key, Blob, past}
 use Rattle.blob_device.specs.Opened.{OpenedList}
 use Rattle.blob_device.specs.Timeline.{Timeline, disk, Always, Each}
 use Rattle.blob_device.specs.lemmas.Moments.{always_start, always_weaker}

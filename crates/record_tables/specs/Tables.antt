@@ -16,7 +16,6 @@ use Rattle.record_tables.specs.declared.handle.Handle.{Handle}
 use Rattle.record_tables.specs.declared.tables.Entry.{Entry}
 use Rattle.record_tables.specs.declared.tables.Table.{Table}
 use Rattle.record_tables.specs.declared.tables.Tables.{Tables}
-use Rattle.record_tables.specs.declared.words.Words.{Words}
 
 -- ---- what they show
 

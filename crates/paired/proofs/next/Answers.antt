@@ -19,7 +19,6 @@ use Rattle.segments.specs.lemmas.adding.Write.{ArePages}
 use Rattle.meta_store.specs.Store.{contents_of}
 use Rattle.paired.specs.Crashes.{IsIndexOf}
 use Rattle.paired.specs.glob.Sections as glob
-use Rattle.paired.specs.Kept.{kept}
 use Rattle.paired.specs.Records.{records}
 use Rattle.paired.specs.Replaying.{Limits, Run, pair_of, HasLostNone, marker, records_over, IsRun}
 use Rattle.paired.proofs.next.Images.{KeepsIndex, keeps_index, kept_same, lawful_on, spelled_on, opened_on, moments_of, untouched_of, still_of, idle_of, others_end}

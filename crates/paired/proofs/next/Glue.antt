@@ -8,7 +8,6 @@ use Rattle.section_manager.specs.declared.unsealed.WriteFactory.{WriteFactory}
 use Rattle.section_manager.specs.Setting.{Setting}
 use Rattle.section_manager.specs.managing.Managed as manager
 use Rattle.segments.specs.FixedReplay.{Walk, SameWalk}
-use Rattle.meta_store.specs.Store as store
 use Rattle.paired.specs.declared.oversized.replaying.Replay.{Replay}
 use Rattle.paired.specs.declared.glob.recovery.Recovery.{Recovery}
 use Rattle.paired.specs.glob.Sections.{IsGlob}

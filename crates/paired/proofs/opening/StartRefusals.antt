@@ -1,17 +1,14 @@
 -- Why an opening refuses, against a lawful image: no marker of a lawful image is refused, nor a record below it.
-use Rattle.std.specs.Prelude.{◌≡◌, ◌⊎◌, ℕ, ◌+◌, ◌-◌, ◌*◌, ◌%◌, ◌^◌, ◌<◌, ◌≤◌, cond, Bool, true, false, List, [], length, take, get_or, IsTrue, IsSome, IfSome, Option, None, Some, unwrap_or}
+use Rattle.std.specs.Prelude.{◌≡◌, ◌⊎◌, ℕ, ◌+◌, ◌-◌, ◌*◌, ◌^◌, ◌<◌, ◌≤◌, cond, Bool, true, false, List, [], length, take, get_or, IsTrue, IsSome, Option, None, Some}
 use Rattle.std.proofs.Common.{inl, inr, refl, ◌∙◌, ap, subst, arith, length-take-le}
-use Rattle.std.specs.Int.{w64, to_be_bytes}
 use Rattle.std.specs.List.{AllByRecursion}
 use Rattle.std.proofs.lemmas.List.{get_or-take}
-use Rattle.blob_device.specs.Disk.{Key, Blob, Disk, reads}
-use Rattle.blob_device.specs.Opened.{Opened, OpenedList}
+use Rattle.blob_device.specs.Disk.{Blob, Disk, reads}
 use Rattle.sealed_pages.specs.SealedPrefix.{sealed_prefix, adopted_size, data_from, pages_in}
 use Rattle.sealed_pages.specs.Slots.{best_slot}
 use Rattle.sealed_pages.specs.View.{view}
 use Rattle.paired.specs.lemmas.Boundary.{content_there}
 use Rattle.paired.specs.lemmas.Kept.{EndsBy, follow_ends, sound_parts}
-use Rattle.paired.specs.lemmas.opening.Start.{index_reads}
 use Rattle.sealed_pages.specs.lemmas.Reaching.{prefix_size, size_at_most}
 use Rattle.sealed_pages.specs.lemmas.adopted.Adopt.{best_length}
 use Rattle.sealed_pages.specs.lemmas.slots.Slot.{slot_length-le, slot_stands, times_page}
@@ -21,11 +18,9 @@ use Rattle.section_manager.specs.declared.journal.Damage.{Damage}
 use Rattle.section_manager.specs.Sections.{section_key}
 use Rattle.segments.specs.FixedFloors.{IsRefused}
 use Rattle.paired.specs.Kept.{Layout, Markers, IsMarked, content_at, stored_records, is_sound_in}
-use Rattle.paired.specs.Opening.{as_read, IsLawful, OnlyOpens}
+use Rattle.paired.specs.Opening.{as_read, IsLawful}
 use Rattle.paired.specs.OpeningRefusing.{AreSpellings, IsCutOff, IsLost, IsOutside, IsUnreadable, last_of}
-use Rattle.paired.specs.Pair.{AreApart}
 use Rattle.paired.specs.Places.{end_of}
-use Rattle.blob_device.proofs.general.Options.{value_of}
 use Rattle.blob_device.proofs.general.Lists.{all_at}
 use Rattle.paired.specs.lemmas.opening.StartRefusals.{last_is_record, records_end, sealed_small}
 

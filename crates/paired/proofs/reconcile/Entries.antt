@@ -1,5 +1,5 @@
 -- What the calls at the end of an opening leave of the list of opened blobs, and which reads they begin.
-use Rattle.std.proofs.Common.{◌≡◌, ◌↔◌, ◌⊎◌, inl, inr, ℕ, ◌/◌, ◌^◌, ◌<◌, ◌≤◌, unwrap_or, Bool, false, List, Option, None, Some, IsSome, IsTrue, refl, sym, ◌∙◌, ap, subst, arith}
+use Rattle.std.proofs.Common.{◌≡◌, ◌↔◌, inl, inr, ℕ, ◌/◌, ◌^◌, ◌<◌, ◌≤◌, unwrap_or, Bool, false, List, Option, None, Some, IsSome, IsTrue, refl, sym, ◌∙◌, ap, subst, arith}
 use Rattle.std.specs.Prelude.{⊤}
 use Rattle.std.proofs.lemmas.Bool.{cases_Bool}
 use Rattle.blob_device.specs.Disk.{Key}

@@ -1,5 +1,5 @@
 -- What the end of an opening answers where one of its calls failed.
-use Rattle.std.proofs.Common.{◌≡◌, ◌↔◌, ◌⊎◌, inl, inr, ℕ, ◌+◌, ◌-◌, ◌*◌, ◌/◌, ◌^◌, ◌<◌, ◌≤◌, min, take, unwrap_or, List, [], length, get_or, Option, Result, Ok, Err, IfOk, OnOk, OnErr, sym, ◌∙◌, ap, subst, arith, length-take}
+use Rattle.std.proofs.Common.{◌≡◌, ◌↔◌, ◌⊎◌, inl, inr, ℕ, ◌-◌, ◌*◌, ◌/◌, ◌^◌, ◌<◌, ◌≤◌, min, take, unwrap_or, List, [], length, get_or, Option, Result, Ok, Err, IfOk, OnOk, OnErr, sym, ◌∙◌, ap, subst, arith, length-take}
 use Rattle.std.specs.Result.{IsErrOf}
 use Rattle.std.proofs.lemmas.Bool.{cases_lt}
 use Rattle.std.proofs.lemmas.List.{get_or-take, take_all}
@@ -26,7 +26,6 @@ use Rattle.paired.specs.glob.Sections as glob
 use Rattle.paired.specs.OpeningRefusing.{place_end}
 use Rattle.paired.specs.Places.{last_end}
 use Rattle.paired.specs.PairRefusing.{HasLostMarkers}
-use Rattle.paired.specs.Records.{records}
 use Rattle.paired.specs.Reconciling.{IsEndWithin}
 use Rattle.paired.specs.Replaying.{Run, IsVouchedFor, marker, records_over, records_given}
 use Rattle.paired.proofs.FailLemmas.{failed_as}

@@ -1,6 +1,6 @@
 -- What `next` of a pair's replay promises, as two bundles: of images and lists, and the other clauses.
 use Rattle.std.specs.Prelude.{◌≡◌, ◌⊎◌, ℕ, ◌+◌, ◌*◌, ◌^◌, ◌<◌, ◌≤◌, ⊤, true, false, List, length, Option, None, Some, Result, Ok, Err}
-use Rattle.blob_device.specs.Disk.{Key, reads}
+use Rattle.blob_device.specs.Disk.{Key}
 use Rattle.blob_device.specs.Opened.{OpenedList, reads_of}
 use Rattle.blob_device.specs.Timeline.{Timeline, disk, Always, Each}
 use Rattle.blob_device.specs.declared.runtime.RError.TheVariants.{InvalidChecksum}

@@ -1,7 +1,7 @@
 -- A replay of a pair after some turns that skipped their records: how it stands, against where it began.
 use Rattle.std.specs.Prelude.{◌≡◌, ◌⊎◌, ◌↔◌, ℕ, ◌+◌, ◌^◌, ◌<◌, ◌≤◌, ⊤, Bool, false, Option}
 use Rattle.std.proofs.Common.{refl, arith}
-use Rattle.blob_device.specs.Disk.{Key, reads}
+use Rattle.blob_device.specs.Disk.{Key}
 use Rattle.blob_device.specs.Opened.{OpenedList, reads_of}
 use Rattle.blob_device.specs.Timeline.{Timeline, disk}
 use Rattle.sealed_pages.specs.declared.page_blob.PageBlob.{PageBlob}

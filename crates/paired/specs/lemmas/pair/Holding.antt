@@ -13,7 +13,6 @@ use Rattle.section_manager.specs.Sections.{section_key}
 use Rattle.value_codec.specs.Keys.{key8_bytes}
 use Rattle.meta_store.specs.declared.error.Side.TheVariants.{Left, Right}
 use Rattle.meta_store.specs.Blobs.{blob_of, bytes_of}
-use Rattle.meta_store.specs.Crashes as metadata
 use Rattle.meta_store.specs.Pairs.{HoldMap}
 use Rattle.section_manager.specs.Prefixes.{IsPrefixOf}
 use Rattle.paired.specs.Records.{Entry, records, is_sound, unbroken_prefix, entry_of}

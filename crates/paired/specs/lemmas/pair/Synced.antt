@@ -6,7 +6,6 @@ use Rattle.std.specs.Str.{bytes_eq}
 use Rattle.std.proofs.lemmas.Bool.{cases_lt, lt-ltb, le-ltb}
 use Rattle.section_manager.specs.declared.sealed.AppendFactory.{AppendFactory}
 use Rattle.section_manager.specs.Setting.{Setting}
-use Rattle.segments.specs.FixedLists as fixed
 use Rattle.value_codec.specs.Keys.{key8_bytes}
 use Rattle.paired.specs.Kept.{Layout, MarkerMap, IsMarked, marker_of}
 use Rattle.paired.specs.Pair.{Pair}

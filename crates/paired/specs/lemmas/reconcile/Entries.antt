@@ -6,7 +6,6 @@ use Rattle.sealed_pages.specs.declared.page_blob.PageBlob.{PageBlob}
 use Rattle.section_manager.specs.declared.buffer.SectionBuffer as buffer
 use Rattle.section_manager.specs.declared.unsealed.WriteFactory.{WriteFactory}
 use Rattle.section_manager.specs.Setting.{Setting}
-use Rattle.segments.specs.FixedLists as fixed
 use Rattle.segments.specs.FixedReplay.{IsDrained}
 use Rattle.meta_store.specs.lemmas.Uses.{IsReadable}
 use Rattle.paired.specs.lemmas.Glob.{buffers}

@@ -3,7 +3,6 @@ use Rattle.std.proofs.Common.{◌≡◌, ◌⊎◌, inl, inr, ℕ, ◌%◌, ◌<
 use Rattle.std.proofs.lemmas.Bool.{cases_eq}
 use Rattle.blob_device.specs.Disk.{Key, Blob, Disk, past}
 use Rattle.blob_device.specs.Opened.{OpenedList}
-use Rattle.blob_device.specs.Timeline.{disk}
 use Rattle.sealed_pages.specs.Buffer.{size_of, bytes_of, IsSealed}
 use Rattle.sealed_pages.specs.Buffer.{key_of as page_key}
 use Rattle.sealed_pages.specs.ChanceSeal.{NoChanceSeal}

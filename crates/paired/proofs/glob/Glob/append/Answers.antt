@@ -14,7 +14,7 @@ use Rattle.section_manager.specs.Leaving.{AllMoments}
 use Rattle.section_manager.specs.managing.Lent.{IsLent, StepsTo}
 use Rattle.section_manager.specs.managing.Managed.{shown}
 use Rattle.section_manager.specs.Sections.{key_of}
-use Rattle.section_manager.specs.unsealed.Buffer.{Stands, content_of, count_of}
+use Rattle.section_manager.specs.unsealed.Buffer.{content_of, count_of}
 use Rattle.paired.specs.glob.Lasting.{Outlasts, settled_bytes}
 use Rattle.sealed_pages.specs.declared.write_blob.WriteBlob.{WriteBlob}
 use Rattle.section_manager.specs.Setting.{Setting}

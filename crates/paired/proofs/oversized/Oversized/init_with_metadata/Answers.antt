@@ -40,7 +40,7 @@ use Rattle.paired.proofs.OpenParts.{named_key}
 use Rattle.meta_store.specs.lemmas.Reopening.{IsPromised}
 use Rattle.paired.specs.lemmas.opening.Start.{lawful_alike, read_alike, stored_alike}
 use Rattle.paired.specs.lemmas.pair.Synced.{layout_as}
-use Rattle.paired.proofs.opening.StartCauses.{PartsRefuse, StopsEarly, corrupt_back, corrupt_on, early_cause, early_has_cause, error_back, markers_gave_up, markers_refuse, memory_raised, never, never_cause, no_corruption, no_refusal, parts_cause, parts_corrupt, parts_give_up, parts_refuse}
+use Rattle.paired.proofs.opening.StartCauses.{PartsRefuse, StopsEarly, corrupt_back, corrupt_on, early_cause, early_has_cause, error_back, markers_gave_up, markers_refuse, memory_raised, never_cause, no_corruption, no_refusal, parts_cause, parts_corrupt, parts_give_up, parts_refuse}
 use Rattle.paired.proofs.opening.StartFound.{PartsOpened, at_ok, by_ok, found_of, glob_as, opening_run, parts_as}
 use Rattle.paired.proofs.opening.StartMoments.{always_recalls, both_open, copies_stay, copy_entries, first_opens, index_apart, index_stays, lawful_named, named_after, named_before, opened_over, opens_content, own_entries, stands_over, stays_open, value_entry, values_apart, values_stay}
 use Rattle.paired.proofs.opening.StartRefusals.{no_loss, no_unreadable}

@@ -1,7 +1,4 @@
-use Rattle.std.proofs.Common.{ℕ, List, refl, sym, ◌∙◌, ap, subst}
-use Rattle.std.specs.BTreeMap.{is_at}
-use Rattle.std.specs.Map.{lookup}
-use Rattle.std.specs.Ordering.{nat_cmp}
+use Rattle.std.proofs.Common.{refl, sym, ◌∙◌, ap, subst}
 use Rattle.blob_device.specs.Timeline.{disk}
 use Rattle.section_manager.specs.managing.Managed as managed
 use Rattle.meta_store.specs.Calls.{IsOpened}

@@ -7,13 +7,10 @@ use Rattle.sealed_pages.specs.lemmas.looking.Looking.{unchanged_start}
 use Rattle.section_manager.specs.declared.journal.Error.TheVariants.{Mem}
 use Rattle.section_manager.specs.managing.Managed.{shown}
 use Rattle.section_manager.specs.Sections.{key_of}
-use Rattle.segments.specs.FixedLists.{section_bytes}
 use Rattle.segments.specs.FixedShown as journal
 use Rattle.paired.specs.glob.Lasting.{Cutting}
 use Rattle.paired.specs.glob.Sections as glob
-use Rattle.paired.specs.Places.{last_end}
 use Rattle.paired.specs.Reconciling.{EndOf}
-use Rattle.paired.specs.Records.{records}
 use Rattle.paired.proofs.ValueEnds.{uncut_moments, cut_moments, cut_idle, cut_bytes, cut_entries, cut_others, cut_held, cut_settled, journal_cut, exact_end, pruned_none, cut_failed}
 use Rattle.paired.proofs.reconcile.Errors.{handed_on, if_err}
 use Rattle.paired.proofs.oversized.recovery.cut_values.Goals as goal

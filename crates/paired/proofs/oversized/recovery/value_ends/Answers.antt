@@ -1,4 +1,4 @@
-use Rattle.std.proofs.Common.{◌∷◌, ◌∙◌, ℕ, List, ap, subst, sym, arith}
+use Rattle.std.proofs.Common.{◌∙◌, ℕ, List, ap, subst, sym, arith}
 use Rattle.std.specs.Prelude.{◌↔◌, min, unwrap_or}
 use Rattle.std.specs.BTreeMap.{get, is_at}
 use Rattle.std.specs.List.{Contains}

@@ -7,7 +7,7 @@ use Rattle.blob_device.specs.Timeline.{disk, Always}
 use Rattle.blob_device.specs.lemmas.Moments.{always_start, always_now}
 use Rattle.sealed_pages.specs.Reading.{Unchanged}
 use Rattle.section_manager.specs.managing.Managed as manager
-use Rattle.section_manager.specs.declared.journal.Error.TheVariants.{Codec, Corruption, ReplayFailed}
+use Rattle.section_manager.specs.declared.journal.Error.TheVariants.{ReplayFailed}
 use Rattle.section_manager.specs.Sections.{section_key, IsHeld}
 use Rattle.segments.specs.FixedReplay.{IsDrained}
 use Rattle.segments.specs.FixedShown as fixed
