@@ -12,6 +12,7 @@ pub mod OpeningFound
 pub mod OpeningRefusing
 pub mod Openings
 pub mod Pair
+pub mod PairDestroys
 pub mod PairFaults
 pub mod PairPrunes
 pub mod PairRefusing

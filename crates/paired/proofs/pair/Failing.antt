@@ -53,6 +53,17 @@ pub failed_before : {T : Type 0} {r : Result T Error} {a b c : ℕ} → HasFaile
 failed_before {a = a} {b = b} {c = c} (inl memory) le = inl memory
 failed_before {a = a} {b = b} {c = c} (inr fault) le = inr (fault.0, rose_before a b c le fault.1)
 
+-- a call that failed before or behind the markers did not fail in them
+pub not_lost : {T : Type 0} (r : Result T Error) (a b c : ℕ) → OnErr r (HasFailed r b c) → HasLostMarkers r a c → ⊥
+not_lost (Ok v) a b c cause is = absurd (cc is.0)
+not_lost (Err e) a b c (inl memory) is = absurd (cc (memory, is.0))
+not_lost (Err e) a b c (inr fault) is = absurd (cc (fault.0, is.0))
+
+-- and it is why the whole failed
+pub failed_or_lost : {T : Type 0} (r : Result T Error) (a b c : ℕ) → a ≤ b → OnErr r (HasFailed r b c) → OnErr r (HasFailed r a c ⊎ HasLostMarkers r a c)
+failed_or_lost (Ok v) a b c le cause = tt
+failed_or_lost (Err e) a b c le cause = inl (failed_before {r = Err e} cause le)
+
 -- ---- a failure of a part
 module _ {T U : Type 0} (r : Result T Error) (e : Error) (is : r ≡ Err e) (low floor a b c : ℕ) (before : low ≤ floor) (since : a ≤ b) (IsNamed : ℕ → Type 0)
     (never : ((s : ℕ) × IsNamed s × (s < floor)) → ⊥) (says : IsPruned {T = U} (Err e) low → (s : ℕ) × IsNamed s × (s < low)) where
