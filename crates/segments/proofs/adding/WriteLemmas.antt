@@ -21,10 +21,7 @@ use Rattle.segments.specs.FixedLasting.{Settling}
 use Rattle.segments.specs.FixedLists.{Lists, section_bytes, IsJournal}
 use Rattle.segments.proofs.adding.Spared.{bytes_none, bytes_spared}
 use Rattle.blob_device.proofs.general.Options.{has_value, none_or_value, value_of}
-use Rattle.segments.specs.lemmas.adding.Write.{ArePages, bytes_here, fine_none, fine_of, fine_same, fine_synced, journal_of, leaves_prefix, leaves_sealed, proven_back}
-
-pub settled_idle : (m n : ℕ) → m ≡ n → not (m == n) ≡ false
-settled_idle m n is = grind (arith, nat_tests)
+use Rattle.segments.specs.lemmas.adding.Write.{ArePages, bytes_here, fine_none, fine_of, fine_same, fine_synced, journal_of, leaves_prefix, leaves_sealed, proven_back, settled_idle}
 
 -- where a sync of the section would do nothing
 pub is_settled : {B : Type 0} (g : buffer.Ghosts B) (o : Option B) (u : B) → o ≡ Some u → (IsSomeAnd o (λ v. g.unsettled v ≡ true) → ⊥) → g.unsettled u ≡ false

@@ -30,7 +30,7 @@ use Rattle.segments.specs.lemmas.FixedOwed.{same_items, items_then, same_or_cut,
 use Rattle.segments.specs.lemmas.replay.Reading.{failed_since, not_read_since}
 use Rattle.segments.specs.lemmas.replay.Walks.{in_section, same_bytes}
 use Rattle.segments.specs.lemmas.replay.WalksOn.{replaying_start}
-use Rattle.segments.proofs.adding.WriteLemmas.{settled_idle}
+use Rattle.segments.specs.lemmas.adding.Write.{settled_idle}
 use Rattle.blob_device.proofs.general.Options.{none_in, same_some, some_of, some_there}
 
 module _ {F S : Type 0} {gs : _} (seal : List ℕ → ℕ) (size : ℕ) (g : buffer.Ghosts (PageBlob S gs)) (gives : F → Setting) {told : Type 0} {w v : Walk F (PageBlob S gs)} where

@@ -1,6 +1,7 @@
 -- What a fixed journal keeps of one section, and that it is a journal where it keeps that of each.
-use Rattle.std.proofs.Common.{◌≡◌, ◌⊎◌, inl, inr, ℕ, ◌%◌, ◌<◌, min, Bool, true, false, List, length, Option, None, Some, IsSome, IsSomeAnd, IsTrue, refl, sym, ◌∙◌, ap, subst, arith}
+use Rattle.std.proofs.Common.{◌≡◌, ◌⊎◌, inl, inr, ℕ, ◌%◌, ◌<◌, min, Bool, true, false, List, length, Option, None, Some, IsSome, IsSomeAnd, IsTrue, refl, sym, ◌∙◌, ap, subst, arith, not, ◌==◌}
 use Rattle.std.proofs.lemmas.Bool.{cases_eq}
+use Rattle.std.proofs.lemmas.Bool.Decides.{nat_tests}
 use Rattle.blob_device.specs.Disk.{Key, Blob, Disk, past}
 use Rattle.blob_device.specs.Opened.{OpenedList}
 use Rattle.sealed_pages.specs.Buffer.{size_of, bytes_of, IsSealed}
@@ -20,6 +21,9 @@ use Rattle.section_manager.specs.Setting.{Setting}
 use Rattle.section_manager.specs.lemmas.sections.Over.{same_key}
 use Rattle.segments.specs.FixedLists.{Lists, section_bytes, section_size, IsJournal, IsProven}
 use Rattle.blob_device.proofs.general.Options.{some_same}
+
+pub settled_idle : (m n : ℕ) → m ≡ n → not (m == n) ≡ false
+settled_idle m n is = grind (arith, nat_tests)
 
 -- The buffers are page blobs under this seal.
 pub record ArePages {S : Type 0} {gs : _} (g : buffer.Ghosts (PageBlob S gs)) (seal : List ℕ → ℕ) : Type 0 where
