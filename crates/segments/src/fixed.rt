@@ -43,34 +43,29 @@
 //
 // An append below the buffer's capacity makes no call. An item is read by at most two reads more than the
 // pages that it fills. A replay reads each page once, and one once more where it cuts.
-ghost use Rattle.std.specs.Prelude.{◌≡◌, ◌≢◌, ◌↔◌, ◌≤◌, ◌<◌, ◌/◌, ℕ, List, [], length, None, IfOk, IfSome, OnErr, IsTrue, string_len};
+ghost use Rattle.std.specs.Prelude.{◌≡◌, ◌≢◌, ◌↔◌, ◌≤◌, ◌<◌, ◌/◌, ◌^◌, ℕ, List, [], length, None, IfOk, IfSome, OnErr, IsTrue, string_len};
 ghost use Rattle.std.specs.List.{Contains};
 ghost use Rattle.std.specs.List.Sorted.{IsStrictlySortedBy};
 ghost use Rattle.std.specs.Ordering.{nat_cmp};
-ghost use Rattle.blob_device.specs.Disk.{Blob, Key};
-ghost use Rattle.blob_device.specs.Timeline.{Always, Each, Timeline, disk};
+ghost use Rattle.blob_device.specs.Disk.{Blob, Disk, Key};
 ghost use Rattle.sealed_pages.specs.Buffer.{Buffer, bytes_of, IsSealed};
-ghost use Rattle.sealed_pages.specs.ChanceSeal.{Leaves, Sealing};
+ghost use Rattle.sealed_pages.specs.ChanceSeal.{Leaves};
 ghost use Rattle.sealed_pages.specs.SealedPrefix.{sealed_prefix, Prefix};
 ghost use Rattle.sealed_pages.specs.Unrecovered.{IsUnrecovered};
-ghost use Rattle.sealed_pages.specs.Shown as pages;
 ghost use Rattle.sealed_pages.specs.declared.page_blob.PageBlob.{PageBlob};
-ghost use Rattle.section_manager.specs.Lasting.{Removing};
-ghost use Rattle.section_manager.specs.Sections.{IsHeld, IsKeyOf, IsKnown};
 ghost use Rattle.section_manager.specs.Refusing.{IsPruned};
+ghost use Rattle.section_manager.specs.Sections.{Sections, key_of, IsHeld, IsKnown, IsSame, SamePlace};
 ghost use Rattle.section_manager.specs.declared.sealed.AppendFactory.{AppendFactory};
 ghost use Rattle.segments.specs.FixedBounds.{CuttingTail};
 ghost use Rattle.segments.specs.FixedItems.{HoldsFirstItems};
-ghost use Rattle.segments.specs.FixedLists.{Lists};
-ghost use Rattle.segments.specs.FixedRemoving.{IsBelow, IsOlder};
-ghost use Rattle.segments.specs.FixedReplay.{Replaying, Walk};
-ghost use Rattle.segments.specs.FixedResting.{CutsNothing, KeepsPromise};
+ghost use Rattle.segments.specs.FixedLists.{Lists, section_bytes};
 
 mod capping;
 mod cursor;
 mod cutting;
 mod draining;
 mod floors;
+mod laws;
 mod opening;
 mod preflighting;
 mod reading;
@@ -82,6 +77,7 @@ mod writing;
 use crate::journal::Error;
 use crate::{AppendFactory, Manager, SectionIter};
 use floors::floor_at;
+pub use laws::rest_laws;
 pub use preflighting::{BoundaryIter, Preflight};
 pub use replaying::Replay;
 use sealed_pages::Pages;
@@ -140,10 +136,11 @@ pub struct Journal<A: CodecFixed, S: Seal> {
 ///
 /// Of a blob that no call touches a crash leaves what its buffer promises. Of a sealed one it is a prefix of
 /// the bytes, no shorter than what has settled (`rests`). Of one that owes a replay it is the whole sealed
-/// prefix (`waits`). That stands at every moment of a call that touches another section's blob alone
-/// (`others`). It stands at every moment of a prune, for each blob that it does not remove (`removes`), and of
-/// a cut of all behind a byte, for each section before (`tails`). In a replay it stands for each section that
-/// is not cut, also where its bytes are gone over (`replays`).
+/// prefix (`waits`). That stands at every moment of a call that takes nothing off the section (`rest_laws`).
+///
+/// A section of which neither the buffer nor the blob changes has the bytes that it had (`stay`). So has each
+/// section before a cut of all behind a byte (`before_tail`), and each other one where a replay's cursor cuts
+/// one (`beside`).
 pub fn item_laws<A: CodecFixed, S: Seal>()
     ensures first { (P : ℕ) (bytes : List ℕ) (least : ℕ) (c : List ℕ)
         → Prefix S.seal_of P bytes least c → HoldsFirstItems A.SIZE bytes least
@@ -154,25 +151,20 @@ pub fn item_laws<A: CodecFixed, S: Seal>()
     ensures waits { (u : Buffer) (b : Blob) → u.from < u.page_size → IsUnrecovered S.seal_of u b
         → Leaves S.seal_of u.page_size (sealed_prefix S.seal_of u.page_size b.content)
         (length (sealed_prefix S.seal_of u.page_size b.content)) b }
-    ensures others { (P : ℕ) (bytes : List ℕ) (least : ℕ) (key q : Key) (old new : Timeline)
-        → Sealing S.seal_of P bytes least key old new → q ≢ key
-        → (size : ℕ) (kept : List ℕ) (few : ℕ) → Leaves S.seal_of size kept few (disk old q)
-        → Always old new (λ d. Leaves S.seal_of size kept few (d q)) }
-    ensures removes { (j : Lists (AppendFactory S) (PageBlob S S.Seal)) (min : ℕ) (u : Buffer)
-        (q : Key) (old new : Timeline)
-        → Always old new (Removing j.sections (IsBelow j min) IsOlder (disk old))
-        → (IsKeyOf j.sections (IsBelow j min) q → ⊥) → u.from < u.page_size
-        → KeepsPromise S.seal_of u q old new }
-    ensures tails { (j : Lists (AppendFactory S) (PageBlob S S.Seal)) (section n : ℕ)
-        (u : Buffer) (q : Key) (old new : Timeline)
-        → Always old new (CuttingTail S.seal_of j section n (disk old))
-        → (IsKeyOf j.sections (λ s. IsKnown j.sections s × (section ≤ s)) q → ⊥)
-        → u.from < u.page_size → KeepsPromise S.seal_of u q old new }
-    ensures replays { (w : Walk (AppendFactory S) (PageBlob S S.Seal)) (u : PageBlob S S.Seal)
-        (q : Key) (old new : Timeline)
-        → Always old new (Each (Replaying S.seal_of A.SIZE w (disk old)))
-        → CutsNothing S.seal_of A.SIZE w (disk old) q u → (pages.shown u).from < u.page_size
-        → KeepsPromise S.seal_of (pages.shown u) q old new }
+    ensures stay { (m n : Sections (AppendFactory S) (PageBlob S S.Seal)) (s : ℕ)
+        (from to : Disk) → SamePlace m n → IsSame m n s
+        → (to (key_of m s)).content ≡ (from (key_of m s)).content
+        → section_bytes n to s ≡ section_bytes m from s }
+    ensures before_tail { (j : Lists (AppendFactory S) (PageBlob S S.Seal))
+        (m : Sections (AppendFactory S) (PageBlob S S.Seal)) (section n s : ℕ) (from to : Disk)
+        → CuttingTail S.seal_of j section n from to
+        → ((t : ℕ) → IsKnown j.sections t → t < 2 ^ 64) → s < section
+        → SamePlace j.sections m → IsSame j.sections m s
+        → section_bytes m to s ≡ section_bytes j.sections from s }
+    ensures beside { (m n : Sections (AppendFactory S) (PageBlob S S.Seal)) (section s : ℕ)
+        (from to : Disk) → ((q : Key) → q ≢ key_of m section → to q ≡ from q)
+        → section < 2 ^ 64 → s < 2 ^ 64 → s ≢ section → SamePlace m n → IsSame m n s
+        → section_bytes n to s ≡ section_bytes m from s }
 {}
 
 impl<A: CodecFixed, S: Seal> Journal<A, S> {
