@@ -108,7 +108,7 @@ closed_rest f some_bytes st d empty leaves image crash no_chance =
     }
   where
     none_kept : (markers : Markers) (s : ℕ) → s < 2 ^ 64 → kept f image markers s ≡ []
-    none_kept markers s small = ap (λ (rs : List (List ℕ)). map (filed f) (map (stored.entry_of f.layout.place (content_at image f.layout.values s)) (stored.prefix (is_sound_in f.layout image s) (marker_of markers.entries s) 0 rs)))
+    none_kept markers s small = ap (λ (rs : List (List ℕ)). map (filed f) (map (stored.entry_of f.layout.place (content_at image f.layout.values s)) (stored.unbroken_prefix (is_sound_in f.layout image s) (marker_of markers.entries s) 0 rs)))
         (none_left_stored f.layout some_bytes d image s (empty s small) crash)
 
 -- ---- of an archive

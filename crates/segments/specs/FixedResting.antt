@@ -21,7 +21,8 @@ module _ (seal : List ℕ → ℕ) (u : Buffer) where
   -- A crash of the blob `b` leaves what the buffer promised over the blob `from`.
   pub record Promises (from b : Blob) : Type 0 where
     -- of a sealed one a prefix of its bytes, no shorter than what had settled
-    pub sealed : IsSealed seal u from → Leaves seal u.page_size (bytes_of u from.content) u.settled b
+    pub sealed : IsSealed seal u from
+        → Leaves seal u.page_size (bytes_of u from.content) u.settled b
     -- of one that is not, all of its sealed prefix, as it read
     pub prefix : IsUnrecovered seal u from
         → Leaves seal u.page_size (sealed_prefix seal u.page_size from.content)
@@ -31,8 +32,8 @@ module _ (seal : List ℕ → ℕ) (u : Buffer) where
   abbrev pub KeepsPromise : Key → Timeline → Timeline → Type 0
   KeepsPromise q old new = Always old new (λ d. Promises (disk old q) (d q))
 
--- Calls of the device were on the blob at this key alone, as an append, a cut of a section, or a cut
--- in a replay tells it.
+-- Calls of the device were on the blob at this key alone, as an append or a cut of a section tells
+-- it (`Alone`), or a cursor's cut (`Sealing`).
 abbrev pub IsOnOne : (List ℕ → ℕ) → Key → Timeline → Timeline → Type 0
 IsOnOne seal key old new = Alone key old new
     ⊎ ((P : ℕ) × (bytes : List ℕ) × (least : ℕ) × Sealing seal P bytes least key old new)

@@ -1,13 +1,13 @@
 -- A blob off which a call takes nothing keeps its promise at every moment, by each kind of call. A section of which neither
 -- the buffer nor the blob changes has the bytes that it had.
-use Rattle.std.specs.Prelude.{◌≡◌, ◌≢◌, ◌⊎◌, ℕ, ◌^◌, ◌*◌, ◌/◌, ◌<◌, ◌≤◌, ◌||◌, List, length, take, Option, None, Some, IsSomeAnd, IsTrue}
+use Rattle.std.specs.Prelude.{◌≡◌, ◌≢◌, ◌⊎◌, ℕ, ◌<◌, ◌≤◌, ◌||◌, List, length, take, Option, None, Some, IsSomeAnd}
 use Rattle.std.proofs.Common.{inl, inr, refl, sym, ◌∙◌, ap, subst, arith}
 use Rattle.std.proofs.lemmas.Bool.{cases_Bool}
 use Rattle.std.proofs.lemmas.List.{take_all}
-use Rattle.blob_device.specs.Disk.{Key, Blob, Disk, past, settled_at, MayLeave}
+use Rattle.blob_device.specs.Disk.{Key, Blob, Disk, past, settled_at}
 use Rattle.blob_device.specs.Timeline.{Timeline, disk, Always, Each, OnlyAt}
 use Rattle.blob_device.specs.lemmas.Moments.{always_weaker}
-use Rattle.sealed_pages.specs.Buffer.{Buffer, size_of, flushed_of, bytes_of, Holds}
+use Rattle.sealed_pages.specs.Buffer.{Buffer, flushed_of, bytes_of, Holds}
 use Rattle.sealed_pages.specs.ChanceSeal.{NoChanceSeal, Leaves}
 use Rattle.sealed_pages.specs.SealedPrefix.{sealed_prefix, Prefix}
 use Rattle.sealed_pages.specs.Shown.{shown}

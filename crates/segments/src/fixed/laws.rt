@@ -21,12 +21,12 @@ use value_codec::{CodecFixed, Seal};
 /// buffer promised when the call began (`Promises`). Of a sealed one each crash leaves a prefix of its bytes,
 /// no shorter than what had settled; of any other its whole sealed prefix.
 ///
-/// So it is in a call on one blob, for each other one (`others`); in a sync, for each section, named or not
-/// (`syncs`); and in an opening, for each blob (`opens`). In an opening up to a byte it is so for each section
-/// of which all that is sealed is kept (`bounds`). A removal of sections spares each that stays (`removes`). A
-/// cut of all behind a byte spares each section before, and the section itself where it ends there or before
-/// (`tails`). A replay spares each section that is not cut, also where its bytes are gone over, or where it is
-/// refused below its floor (`replays`).
+/// So it is in a call on one blob, for each other one (`others`). In a sync it is so for each section, named
+/// or not (`syncs`), and in an opening for each blob (`opens`). In an opening up to a byte it is so for each
+/// section of which all that is sealed is kept (`bounds`). A removal spares each section that stays
+/// (`removes`). A cut of all behind a byte spares each section before, and the section itself where nothing of
+/// it stands behind (`tails`). A replay spares each section that is not cut, also where its bytes are gone
+/// over, or where it is refused below its floor (`replays`).
 pub fn rest_laws<A: CodecFixed, S: Seal>()
     ensures others { (u : Buffer) (key q : Key) (old new : Timeline)
         → IsOnOne S.seal_of key old new → q ≢ key → u.from < u.page_size
@@ -44,8 +44,8 @@ pub fn rest_laws<A: CodecFixed, S: Seal>()
         → Always old new (Bounding S.seal_of u.page_size A.SIZE partition last end (disk old))
         → BoundSpares S.seal_of u.page_size A.SIZE partition last end (disk old) q
         → u.from < u.page_size → KeepsPromise S.seal_of u q old new }
-    ensures removes { (j : Lists (AppendFactory S) (PageBlob S S.Seal)) (below : Option ℕ) (u : Buffer)
-        (q : Key) (old new : Timeline)
+    ensures removes { (j : Lists (AppendFactory S) (PageBlob S S.Seal)) (below : Option ℕ)
+        (u : Buffer) (q : Key) (old new : Timeline)
         → Always old new (Removing j.sections (IsDoomedBy j below) IsOlder (disk old))
         → (IsKeyOf j.sections (IsDoomedBy j below) q → ⊥) → u.from < u.page_size
         → KeepsPromise S.seal_of u q old new }
