@@ -39,7 +39,7 @@ pub record KeepsSynced {V : Type 0} (s : ℕ) (old new : State V) : Type 0 where
 abbrev pub put_last : {V : Type 0} → ℕ → Entry V → State V → State V
 put_last items r st = appended items r.index r.key r.value st
 
-data Made {V : Type 0} (items : ℕ) (command : Command V) (old new : State V) : Type 0 where
+pub data Made {V : Type 0} (items : ℕ) (command : Command V) (old new : State V) : Type 0 where
   unchanged : new ≡ old → Made items command old new
   one_more : (r : Entry V) → put_by command ≡ Some r → old.floor ≤ r.index → new ≡ put_last items r old → Made items command old new
   all_synced : new ≡ after_sync old → Made items command old new
