@@ -7,7 +7,6 @@ use Rattle.std.proofs.lemmas.List.Elements.{Contains-append_left, Contains-push_
 use Rattle.std.proofs.lemmas.List.Folds.{Any-from_list_any, list_any_at}
 use Rattle.std.proofs.lemmas.Bool.Decides.{nat_tests}
 use Rattle.archives.specs.Commands.{Command, Reopen}
-use Rattle.archives.specs.Replies as reply
 use Rattle.archives.specs.Replies.{Reply}
 use Rattle.archives.specs.Machine.{Entry, State, Step, Run, empty_state, section_of, has_index, emptied_below}
 use Rattle.archives.specs.lemmas.MachineLaws.{IsEmptying, IsInOrder, Made, unchanged, one_more, all_synced, one_more_synced, opened_anew, emptied, gone, made, put_by, put_last, step_keeps_order}

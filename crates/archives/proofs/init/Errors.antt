@@ -2,7 +2,7 @@
 use Rattle.std.proofs.Common.{◌≡◌, ◌≢◌, ◌⊎◌, inl, inr, refl, sym, ◌∙◌, ap, subst, ℕ, ◌≤◌, List, Result, Ok, Err, arith}
 use Rattle.std.specs.Result.{IsErrOf}
 use Rattle.blob_device.specs.Counts.{Rose}
-use Rattle.blob_device.specs.declared.runtime.RError.TheVariants.{Fault, InvalidChecksum, OffsetOverflow}
+use Rattle.blob_device.specs.declared.runtime.RError.TheVariants.{Fault, InvalidChecksum}
 use Rattle.value_codec.specs.declared.codec.Error as codec
 use Rattle.meta_store.specs.declared.error.Error as meta
 use Rattle.meta_store.specs.declared.error.Error.TheVariants as store

@@ -12,7 +12,7 @@ use Rattle.paired.specs.lemmas.pair.Facts.{proven_of}
 use Rattle.paired.specs.lemmas.pair.Synced.{Here}
 use Rattle.paired.specs.lemmas.reconcile.Kept.{sound_longer}
 use Rattle.paired.specs.lemmas.reconcile.Phases.{markers_one}
-use Rattle.paired.specs.lemmas.reconcile.Resting.{Resting, index_number, known_of, rests_no_chance, stored_at, values_at, values_number}
+use Rattle.paired.specs.lemmas.reconcile.Resting.{Resting, index_number, rests_no_chance, stored_at, values_at, values_number}
 use Rattle.segments.specs.lemmas.adding.Write.{ArePages}
 use Rattle.sealed_pages.specs.declared.page_blob.PageBlob.{PageBlob}
 use Rattle.section_manager.specs.declared.buffer.SectionBuffer as buffer

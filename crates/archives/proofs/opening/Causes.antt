@@ -1,5 +1,5 @@
 -- Why an opening fails, by the results of calls; and as the relation has it, by the error.
-use Rattle.std.proofs.Common.{◌≡◌, ◌≢◌, ◌⊎◌, inl, inr, sym, subst, ℕ, ◌+◌, ◌*◌, ◌<◌, ◌≤◌, ◌^◌, List, length, Result, Err}
+use Rattle.std.proofs.Common.{◌≡◌, ◌≢◌, ◌⊎◌, inl, inr, sym, subst, ℕ, ◌*◌, ◌<◌, ◌^◌, List, length, Result, Err}
 use Rattle.std.specs.Result.{IsErrOf}
 use Rattle.blob_device.specs.Counts.{Rose}
 use Rattle.blob_device.specs.Disk.{Disk}

@@ -7,7 +7,6 @@ use Rattle.blob_device.specs.Opened.{OpenedList}
 use Rattle.value_codec.specs.declared.codec.Error as codec
 use Rattle.sealed_pages.specs.declared.page_blob.PageBlob.{PageBlob}
 use Rattle.section_manager.specs.Sections.{IsSame}
-use Rattle.section_manager.specs.Sections as sections
 use Rattle.segments.specs.FixedLists as fixed
 use Rattle.paired.specs.glob.Sections as glob
 use Rattle.paired.specs.Pair.{Pair, IsPair, length_of, list_of, records_of, synced_length}

@@ -22,7 +22,6 @@ use Rattle.paired.specs.Pair.{HasNoBytes, IsPair, Pair, length_of, list_of, reco
 use Rattle.paired.specs.PairFaults.{IsSyncedAfter}
 use Rattle.paired.specs.PairSync.{IsSyncOf, SyncKeeps}
 use Rattle.paired.specs.Places.{Follow}
-use Rattle.paired.specs.Records as stored
 use Rattle.paired.specs.lemmas.Kept.{follow_least}
 use Rattle.paired.specs.lemmas.pair.Reads.{leaves_now}
 use Rattle.archives.specs.Archives.{Archive, IsArchive, IsSoundArchive, LeavesNoForeign, filing_of, state_of}
