@@ -2,7 +2,7 @@
 use Rattle.std.proofs.Common.{◌≡◌, ◌≢◌, ℕ, zero, suc, true, ◌+◌, ◌*◌, ◌%◌, ◌≤◌, ◌^◌, List, [], ◌∷◌, ◌++◌, length, map, Option, Some, codes, eq-eqb, ne_eqb, refl, sym, ap, ◌∙◌, subst, append-nil, append_assoc, length-append, arith}
 use Rattle.std.specs.Prelude.{if◌then◌else◌, ◌==◌}
 use Rattle.std.specs.Fmt.{decimal}
-use Rattle.std.specs.List.{flat_map, range_with_len, sum_by}
+use Rattle.std.specs.List.{flat_map, range_with_len}
 use Rattle.std.proofs.lemmas.List.{flat_map_more, map_push}
 use Rattle.std.proofs.lemmas.List.Sums.{sum_by_push}
 use Rattle.archives.specs.Commands.{Put, Get, HasKey, Ranges, First, Last, Sync, Reopen}
@@ -13,7 +13,6 @@ use Rattle.archives.specs.declared.commands.Reply as answering
 use Rattle.archives.specs.declared.commands.Reply.TheVariants as answer
 use Rattle.archive_service.specs.Made.{first_of, last_of, made, made_key, made_puts, made_tests, made_value, summary_text}
 use Rattle.archive_service.specs.MadeCounts.{AddsReply, AreCounted, AreUpTo, index_of_reply, range_count, value_bytes, value_count, yes_count}
-use Rattle.archive_service.specs.Script.{IsIndex}
 use Rattle.archive_service.specs.Texts.{Spelled, number_text}
 use Rattle.archive_service.specs.declared.made.Counts.{Counts}
 

@@ -1,6 +1,6 @@
 -- What the removal of an archive promises, and what a removed one answers, in the terms of a store that serves commands.
 use Rattle.std.specs.Prelude.{⊤, IsTrue}
-use Rattle.std.proofs.Common.{◌≡◌, ◌⊎◌, inl, inr, refl, sym, ◌∙◌, ap, subst, ℕ, ◌<◌, length, true, false, List, [], Option, None, Some, IsSomeAnd, Result, Ok, Err}
+use Rattle.std.proofs.Common.{◌≡◌, ◌⊎◌, inl, inr, refl, sym, ◌∙◌, ap, subst, ℕ, ◌<◌, true, false, List, [], Option, None, Some, IsSomeAnd, Result, Ok, Err}
 use Rattle.blob_device.specs.Disk.{Disk}
 use Rattle.blob_device.specs.Footprint.{NoBound}
 use Rattle.blob_device.specs.Timeline.{disk}

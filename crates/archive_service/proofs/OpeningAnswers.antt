@@ -1,11 +1,8 @@
 -- What an opening promises, in the terms of a store that serves commands: the first one, and a reopening.
-use Rattle.std.specs.Prelude.{IfSome, IsSomeAnd, IsTrue, cond}
-use Rattle.std.specs.Option.{unwrap_or}
-use Rattle.std.proofs.Common.{◌≡◌, ◌⊎◌, inl, inr, refl, sym, ◌∙◌, ap, subst, ℕ, ◌+◌, ◌≤◌, ◌^◌, List, [], ◌∷◌, length, map, Bool, Option, Some, None, Result, Ok, Err, arith}
+use Rattle.std.proofs.Common.{◌≡◌, ◌⊎◌, inl, inr, refl, sym, ◌∙◌, ap, subst, ℕ, ◌≤◌, ◌^◌, List, [], ◌∷◌, length, map, Option, Some, None, Result, Ok, Err}
 use Rattle.blob_device.specs.Counts.{Rose}
-use Rattle.blob_device.specs.Disk.{Blob, Disk, Key, MayLeave, NothingPending, reads}
+use Rattle.blob_device.specs.Disk.{Disk, Key, MayLeave, NothingPending, reads}
 use Rattle.blob_device.specs.Footprint.{Footprint, NoBound}
-use Rattle.blob_device.specs.Opened.{Opened as Entry}
 use Rattle.blob_device.specs.Timeline.{Always, disk}
 use Rattle.blob_device.specs.declared.device.Device as device
 use Rattle.blob_device.specs.declared.runtime.RError.TheVariants as runtime
@@ -15,11 +12,10 @@ use Rattle.archive_service.specs.lemmas.Store.{Given, always_as, lists_long_of, 
 use Rattle.archives.specs.lemmas.Reopening.{none_beyond}
 use Rattle.archives.specs.lemmas.init.Records.{one_markers}
 use Rattle.meta_store.specs.lemmas.Uses.{IsReadable}
-use Rattle.section_manager.specs.Sections.{section_key}
 use Rattle.section_manager.specs.declared.journal.Error.TheVariants as journal
 use Rattle.section_manager.specs.declared.sealed.AppendFactory.{AppendFactory}
 use Rattle.sealed_pages.specs.declared.page_blob.PageBlob.{PageBlob}
-use Rattle.paired.specs.Kept.{Markers, content_at}
+use Rattle.paired.specs.Kept.{Markers}
 use Rattle.paired.specs.Opening.{MayBeOpened, as_read}
 use Rattle.archives.specs.Archives.{state_of}
 use Rattle.archives.specs.Changes.{Asked, outcome}

@@ -7,8 +7,6 @@ use Rattle.sealed_pages.specs.Reading.{Unchanged}
 use Rattle.sealed_pages.specs.Shown as page_blob
 use Rattle.sealed_pages.specs.declared.page_blob.PageBlob.{PageBlob}
 use Rattle.section_manager.specs.declared.buffer.SectionBuffer as buffer
-use Rattle.segments.specs.FixedLists as fixed
-use Rattle.paired.specs.Records as stored
 use Rattle.paired.specs.lemmas.reconcile.Entries.{markers_readable}
 use Rattle.archives.specs.Changes.{Asked, Replied, outcome}
 use Rattle.archives.specs.Commands.{Reopen}

@@ -26,8 +26,7 @@ use Rattle.paired.specs.lemmas.Records.{length-records}
 use Rattle.archives.specs.Archives.{IsArchive, IsSoundArchive, filing_of, state_of}
 use Rattle.archives.specs.Changes.{Asked, Replied}
 use Rattle.archives.specs.Commands.{Reopen}
-use Rattle.archives.specs.Config.{IsValid}
-use Rattle.archives.specs.Filing.{Filing, filed, kept}
+use Rattle.archives.specs.Filing.{Filing, filed}
 use Rattle.archives.specs.FilingLaws.{one_filing}
 use Rattle.archives.specs.Machine.{Entry, State, section_of}
 use Rattle.archives.specs.Outlasts.{Outlasts}

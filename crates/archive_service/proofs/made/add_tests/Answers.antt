@@ -1,5 +1,5 @@
 -- Each thousandth key is asked for.
-use Rattle.std.proofs.Common.{◌≡◌, ◌++◌, map, refl, sym, ap, ◌∙◌, append-nil, arith}
+use Rattle.std.proofs.Common.{◌≡◌, ◌++◌, map, sym, ap, ◌∙◌, append-nil, arith}
 use Rattle.std.specs.List.{flat_map, range_with_len}
 use Rattle.archives.specs.Commands.{HasKey}
 use Rattle.archives.specs.Machine.{asked}
