@@ -2,7 +2,7 @@
 use Rattle.std.proofs.Common.{◌≡◌, ◌⊎◌, ◌↔◌, ◌∙◌, inl, inr, ℕ, ◌^◌, ◌<◌, ◌≤◌, List, [], ◌++◌, ◌∷◌, length, Some, Result, Ok, Err, refl, sym, ap, subst, arith}
 use Rattle.std.specs.Result.{IsErrOf}
 use Rattle.std.proofs.Math.Nat.{div-one}
-use Rattle.std.proofs.lemmas.Bool.{cases_eq, cases_lt}
+use Rattle.std.proofs.lemmas.Bool.{cases_eq}
 use Rattle.blob_device.specs.Timeline.{disk}
 use Rattle.blob_device.specs.declared.device.Device as device
 use Rattle.sealed_pages.specs.Buffer.{IsSealed}
@@ -21,23 +21,15 @@ use Rattle.segments.specs.FixedAdding.{WouldOverfill}
 use Rattle.segments.specs.FixedLists.{Lists, section_bytes, IsRecovered}
 use Rattle.segments.specs.lemmas.adding.Adding.{along_nothing}
 use Rattle.segments.specs.lemmas.adding.Write.{ArePages}
-use Rattle.segments.specs.lemmas.held.Passing.{no_error}
+use Rattle.variable_journal.specs.lemmas.Frame.{one_more}
 use Rattle.variable_journal.specs.Adding.{Appends}
 use Rattle.variable_journal.specs.Frames.{frame, items_of, rest_of}
 use Rattle.variable_journal.specs.Lists.{AreFramed, IsJournal}
-use Rattle.variable_journal.proofs.FrameLemmas.{one_more}
 
 -- the error of an append, of an answer of any type
 abbrev pub IsWhy : (T : Type 0) → ℕ → ℕ → ℕ → Error → Type 0
 IsWhy T floor few many e = IsErrOf {T = T} (Err e) ValueTooLarge ⊎ (IsPruned {T = T} (Err e) floor
     ⊎ (IsErrOf {T = T} (Err e) Full ⊎ HasFailed {T = T} (Err e) few many))
-
--- a length that was not refused fits
-pub below_large : {T : Type 0} (v : T) (n : ℕ) → IsErrOf (Ok v) ValueTooLarge ↔ (2 ^ 32 ≤ n) → n < 2 ^ 32
-below_large {T = T} v n large = elim (cases_lt n (2 ^ 32)) [
-  | inl fits ↦ fits
-  | inr big ↦ absurd (no_error v ValueTooLarge (large.1 big))
-]
 
 -- the bytes that were added, by another name
 pub spelled_as : {S D T : Type 0} {gs : _} (g : buffer.Ghosts (PageBlob S gs)) (gives : AppendFactory S → Setting) (seal : List ℕ → ℕ) (dev : device.Ghosts D)

@@ -5,10 +5,11 @@ use Rattle.value_codec.specs.Varint.{varint, BeginsWithVarint, IsVarint, IsWhyNo
 use Rattle.value_codec.specs.declared.codec.Error as codec
 use Rattle.value_codec.specs.declared.codec.Error.TheVariants.{InvalidVarint}
 use Rattle.value_codec.specs.lemmas.Varint.{varint_apart, varint_only}
+use Rattle.variable_journal.specs.lemmas.Frame.{none_extends, varint_some}
 use Rattle.section_manager.specs.Raised.{raised_codec}
 use Rattle.variable_journal.specs.Frames.{frame, BeginsWithFrame, HasBadLength}
 use Rattle.variable_journal.specs.Reading.{IsPastLast, Measures}
-use Rattle.variable_journal.proofs.FrameLemmas.{bad_of, none_extends, not_bad, varint_some}
+use Rattle.variable_journal.proofs.FrameLemmas.{bad_of, not_bad}
 
 -- a length is there, whatever follows
 pub found_on : (prefix rest : List ℕ) (n len : ℕ) → BeginsWithVarint (2 ^ 32) prefix n len → BeginsWithVarint (2 ^ 32) (prefix ++ rest) n len

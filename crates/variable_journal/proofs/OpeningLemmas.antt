@@ -8,6 +8,7 @@ use Rattle.sealed_pages.specs.declared.page_blob.PageBlob.{PageBlob}
 use Rattle.sealed_pages.specs.declared.pages.Pages.{Pages}
 use Rattle.sealed_pages.specs.Shown.{shown}
 use Rattle.sealed_pages.specs.lemmas.memory.Holding.{bytes_length}
+use Rattle.variable_journal.specs.lemmas.Frame.{rest_none}
 use Rattle.section_manager.specs.Sections.{key_of}
 use Rattle.section_manager.specs.Setting.{Setting}
 use Rattle.section_manager.specs.declared.buffer.SectionBuffer as buffer
@@ -17,7 +18,6 @@ use Rattle.segments.specs.FixedLists.{Lists, bytes_held, section_bytes, section_
 use Rattle.segments.specs.FixedOpens as bytes
 use Rattle.variable_journal.specs.Frames.{rest_of}
 use Rattle.variable_journal.specs.Opening.{Opens}
-use Rattle.variable_journal.proofs.FrameLemmas.{rest_none}
 
 pub section_length : {F S : Type 0} {gs : _} (j : Lists F (PageBlob S gs)) (d : Disk) (s : ℕ) → length (section_bytes j.sections d s) ≡ section_size j.sections s
 section_length {S = S} {gs = gs} j d s = go (j.sections.held s)

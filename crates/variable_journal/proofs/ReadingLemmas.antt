@@ -26,7 +26,7 @@ use Rattle.variable_journal.specs.Reading.{FrameOf, HasHeader, IsPastLast, IsRef
 use Rattle.variable_journal.proofs.LengthLemmas.{header_frame, past_of_none}
 
 -- a codec's error is want of memory, or is passed on as it is
-mem_or : (x : codec.Error) → (x ≡ code.Mem) ⊎ (raised_codec x ≡ Codec x)
+pub mem_or : (x : codec.Error) → (x ≡ code.Mem) ⊎ (raised_codec x ≡ Codec x)
 mem_or code.Mem = inl refl
 mem_or code.EndOfBuffer = inr refl
 mem_or code.ExtraBytes = inr refl

@@ -2,12 +2,21 @@
 -- frame at its offset (`Frames`). What calls promise is in `Opening`, `Adding`, `Reading`, `Settling` and
 -- `Removing`. What a crash leaves of a section is said of its bytes; `first_of_prefix` of `FrameLemmas` says it
 -- of its items.
+pub mod Adding
+pub mod Advancing
 pub mod Bytes
+pub mod Draining
+pub mod Finishing
 pub mod Frames
 pub mod Lists
 pub mod Opening
-pub mod Adding
+pub mod OpeningAtMost
 pub mod Reading
-pub mod Settling
 pub mod Removing
+pub mod Replaying
+pub mod Settling
 pub mod Shown
+pub mod Trying
+pub mod Turning
+pub mod Walking
+pub mod lemmas

@@ -1,5 +1,6 @@
 -- What reading an item at an offset answers.
-use Rattle.std.specs.Prelude.{◌≡◌, ◌⊎◌, ◌↔◌, ℕ, ◌+◌, ◌^◌, ◌<◌, ◌≤◌, false, List, length, drop, Option, Some, None, Result, Ok, Err, IfOk, OnErr, IsSomeAnd}
+use Rattle.std.specs.List.{Contains}
+use Rattle.std.specs.Prelude.{⊤, ◌≡◌, ◌⊎◌, ◌↔◌, ℕ, ◌+◌, ◌^◌, ◌<◌, ◌≤◌, false, List, [], ◌∷◌, get_or, length, drop, take, Option, Some, None, Result, Ok, Err, IfOk, OnOk, OnErr, IsSomeAnd}
 use Rattle.std.specs.Result.{IsErrOf}
 use Rattle.blob_device.specs.Disk.{Blob}
 use Rattle.blob_device.specs.Timeline.{disk}
@@ -149,5 +150,75 @@ module _ {F S V C D : Type 0} {gs : _} (seal : List ℕ → ℕ) (spelling : V �
     -- nothing else is answered but a fault or want of memory
     pub cause : OnErr result (IsPruned result j.sections.floor ⊎ (IsAbsent result section
         ⊎ (IsPast result offset ⊎ (((k : ℕ) × IsErrOf result (Runtime (InvalidChecksum k)))
+        ⊎ (((e : codec.Error) × IsErrOf result (Codec e))
+        ⊎ HasFailed result (dev.faults old) (dev.faults new))))))
+
+-- The values whose frames stand at these offsets, in this order.
+abbrev pub AreThere : {V C : Type 0} → (V → List ℕ) → (V → C → Type 0) → C → List ℕ
+    → List ℕ → List V → Type 0
+AreThere spelling accepted config bytes [] [] = ⊤
+AreThere spelling accepted config bytes [] (v ∷ vs) = ⊥
+AreThere spelling accepted config bytes (o ∷ os) [] = ⊥
+AreThere spelling accepted config bytes (o ∷ os) (v ∷ vs) =
+    FrameOf spelling accepted config (drop o bytes) v × AreThere spelling accepted config bytes os vs
+
+-- Of these offsets all before one of them have frames there, and that one was refused.
+pub record IsFirstRefused {V C : Type 0} (told : Type 0) (spelling : V → List ℕ)
+    (accepted : V → C → Type 0) (config : C) (bytes : List ℕ) (offsets : List ℕ) (offset : ℕ)
+    : Type 0 where
+  -- so many are before it
+  pub count : ℕ
+  pub below : count < length offsets
+  pub is : get_or offsets count 0 ≡ offset
+  -- and have these values
+  pub before : told → (vs : List V)
+      × AreThere spelling accepted config bytes (take count offsets) vs
+
+-- The items at these offsets of the section were asked for.
+module _ {F S V C D : Type 0} {gs : _} (seal : List ℕ → ℕ) (spelling : V → List ℕ)
+    (accepted : V → C → Type 0) (refusal : List ℕ → C → Option codec.Error) (config : C)
+    (dev : device.Ghosts D) (section : ℕ) (offsets : List ℕ) (j : Lists F (PageBlob S gs))
+    (result : Result (List V) Error) (old new : D) where
+  -- the section's bytes
+  abbrev pub all_there : List ℕ
+  all_there = section_bytes j.sections (disk (dev.time old)) section
+
+  -- the offset is the first one that was refused
+  abbrev pub IsRefusedAt : ℕ → Type 0
+  IsRefusedAt = IsFirstRefused dev.Tells spelling accepted config all_there offsets
+
+  pub record GetsMany : Type 0 where
+    -- they are those whose frames stand there
+    pub values : dev.Tells → IfOk result (AreThere spelling accepted config all_there offsets)
+    -- a section below the floor is refused, and no other by this
+    pub guard : IsPruned result j.sections.floor ↔ (section < j.sections.floor)
+    -- then one that is not held
+    pub absent : IsAbsent result section
+        ↔ ((j.sections.floor ≤ section) × (j.sections.held section ≡ None))
+    -- then the first offset where no frame stands that ends in the section
+    pub past : (o : ℕ) → IsPast result o
+        → IsRefusedAt o × (dev.Tells → IsPastLast (drop o all_there))
+    -- each offset that is read is below the end
+    pub inside : OnOk result ((o : ℕ) → Contains offsets o
+        → o < section_size j.sections section)
+    -- a page is refused only where no matching slot covers it as far as the read goes
+    pub damaged : dev.Tells → (k : ℕ) → IsErrOf result (Runtime (InvalidChecksum k))
+        → IsSomeAnd (j.sections.held section) (λ u. (m : ℕ) × (n : ℕ) × IsShort seal u.page_size
+        (disk (dev.time old) (key_of j.sections section)).content m n k)
+    -- none of a section that owes no replay is
+    pub sound : dev.Tells → j.unrecovered section ≡ false → (k : ℕ)
+        → IsErrOf result (Runtime (InvalidChecksum k)) → ⊥
+    -- bytes are refused for what they do not spell, at the first offset where they do not
+    pub refused : dev.Tells → (e : codec.Error) → IsErrOf result (Codec e)
+        → (o : ℕ) × IsRefusedAt o × IsRefusedBy refusal config (drop o all_there) e
+    -- nothing is written
+    pub unchanged : dev.Tells → Unchanged (dev.time old) (dev.time new)
+    -- the section's blob stays open, and no other entry changes
+    pub entries : OnlyRead (key_of j.sections section) (dev.opened old) (dev.opened new)
+    -- faults are counted on
+    pub faults : dev.faults old ≤ dev.faults new
+    -- nothing else is answered but a fault or want of memory
+    pub cause : OnErr result (IsPruned result j.sections.floor ⊎ (IsAbsent result section
+        ⊎ (((o : ℕ) × IsPast result o) ⊎ (((k : ℕ) × IsErrOf result (Runtime (InvalidChecksum k)))
         ⊎ (((e : codec.Error) × IsErrOf result (Codec e))
         ⊎ HasFailed result (dev.faults old) (dev.faults new))))))

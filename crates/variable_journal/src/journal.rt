@@ -41,9 +41,11 @@ ghost use Rattle.section_manager.specs.Sections.{IsHeld};
 mod opening;
 mod reading;
 mod removing;
+mod replaying;
 mod writing;
 
 use crate::byte::Byte;
+pub use replaying::Replay;
 use sealed_pages::Pages;
 use segments::fixed;
 use segments::journal::Error;

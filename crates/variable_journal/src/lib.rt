@@ -10,7 +10,9 @@
 #![tactic(auto)]
 
 mod byte;
+mod items;
 mod journal;
 pub mod plain;
 
-pub use journal::{Config, Journal};
+pub use items::Items;
+pub use journal::{Config, Journal, Replay};

@@ -3,6 +3,7 @@ ghost use Rattle.std.specs.Prelude.{◌≡◌, ◌≤◌, IfOk, OnErr, string_by
 ghost use Rattle.std.specs.Result.{IsErrOf};
 ghost use Rattle.section_manager.specs.Answers.{seen};
 ghost use Rattle.variable_journal.specs.Opening.{Opens};
+ghost use Rattle.variable_journal.specs.OpeningAtMost.{OpensTo};
 
 use super::{Config, Journal};
 use blob_device::Device;
@@ -47,5 +48,36 @@ impl<V: Codec, S: Seal> Journal<V, S> {
             bytes,
             codec_config: cfg.codec_config,
         })
+    }
+
+    /// Opens the sections of the partition up to this one, removes the later ones, the newest first, and cuts this
+    /// one to its sealed bytes before `end`. Then each section is cut durably to its whole frames. The sections take
+    /// appends.
+    ///
+    /// It refuses a blob with a name that is no section's, also above the bound, before it changes anything. `Codec`
+    /// says why the first item, or length, is refused.
+    pub fn init_at_most<D: Device>(
+        alloc: Global,
+        dev: &mut D,
+        cfg: &Config<V::Cfg>,
+        section: u64,
+        end: u64,
+    ) -> Result<Self, Error>
+        requires { 1 ≤ cfg.now.pages.page_size }
+        ensures { OpensTo S.seal_of cfg.now.pages.page_size (string_bytes cfg.now.partition) section
+            end V.spelling V.accepted cfg.now.codec_config V.refusal
+            ⟦<PageBlob<S> as SectionBuffer>⟧ ⟦<AppendFactory<S> as BufferFactory>⟧.gives
+            cfg.now.pages cfg.now.write_buffer D.Device (seen shown result) (seen config_of result)
+            dev.old dev.new }
+    {
+        let bytes = fixed::Journal::open_at_most(alloc, dev, &cfg.of_bytes()?, section, end)?;
+        let journal = Journal {
+            alloc,
+            bytes,
+            codec_config: cfg.codec_config,
+        };
+        // Behind the cut: what stands above the bound is not judged.
+        let replay = journal.replay(dev, 0, 0, cfg.write_buffer)?;
+        replay.drain(dev)
     }
 }

@@ -6,21 +6,23 @@ ghost use Rattle.segments.specs.FixedReading.{IsAbsent};
 ghost use Rattle.sealed_pages.specs.Buffer as pages;
 ghost use Rattle.sealed_pages.specs.Entries.{IsOpenAt};
 ghost use Rattle.sealed_pages.specs.Shown as page_blob;
-ghost use Rattle.variable_journal.specs.Reading.{FrameOf, Gets, HasHeader, Measures, Reads};
+ghost use Rattle.variable_journal.specs.Reading.{FrameOf, Gets, GetsMany, HasHeader, Measures, Reads};
+ghost use Rattle.variable_journal.specs.Trying.{FindsLength, GetsHeld, TriesGet};
 
 use super::Journal;
+use crate::Items;
 use blob_device::Device;
 use sealed_pages::PageBlob;
 use segments::journal::Error;
 use segments::{AppendFactory, BufferFactory, SectionBuffer};
-use value_codec::{Codec, Seal, read_varint32};
+use value_codec::{Codec, Seal, codec, read_varint32};
 
 // How many bytes the longest length of a frame has.
-const LONGEST: usize = 5;
+pub(super) const LONGEST: usize = 5;
 
 // The length of the frame that begins with these bytes, and how many bytes it takes; none where they are cut
 // short. They are five, or all that are left.
-fn length_of(prefix: &[u8]) -> Result<Option<(u32, usize)>, Error>
+pub(super) fn length_of(prefix: &[u8]) -> Result<Option<(u32, usize)>, Error>
     ensures { (rest : List ℕ) → (length prefix.now < 5 → rest ≡ [])
         → Measures (length prefix.now) (prefix.now ++ rest) result }
 {
@@ -115,5 +117,89 @@ impl<V: Codec, S: Seal> Journal<V, S> {
     {
         let buffer = self.buffer_of(section)?;
         self.read_frame(dev, buffer, offset)
+    }
+
+    /// The items whose frames stand at these offsets, in this order.
+    ///
+    /// It refuses as [`get`](Journal::get) does: the section first, also where no offset is given, and then
+    /// the first offset that `get` refuses.
+    pub fn get_many<D: Device>(
+        &self,
+        dev: &mut D,
+        section: u64,
+        offsets: &[u64],
+    ) -> Result<Items<V>, Error>
+        requires { IsJournal
+            ⟦<PageBlob<S> as SectionBuffer>⟧ ⟦<AppendFactory<S> as BufferFactory>⟧.gives
+            S.seal_of D.Tells (shown self.now) (D.opened dev.old) (disk (D.time dev.old)) }
+        ensures { GetsMany S.seal_of V.spelling V.accepted V.refusal (config_of self.now) D.Device
+            section offsets.now (shown self.now) result dev.old dev.new }
+    {
+        let buffer = self.buffer_of(section)?;
+        let mut items = Vec::new(self.alloc);
+        for offset in offsets {
+            let item = self.read_frame(dev, buffer, *offset)?;
+            items.push(item)?;
+        }
+        Ok(Items::from_vec(items))
+    }
+
+    // The length of the frame at an offset, and how many bytes it takes, where these are in memory.
+    fn held_length(buffer: &PageBlob<S>, offset: u64) -> Option<(u32, usize)>
+        ensures { FindsLength S.seal_of buffer.now offset result }
+    {
+        let mut prefix = [0; LONGEST];
+        let mut count = 0;
+        'bytes: while count < LONGEST {
+            // One byte more at a time: those behind the length may lie in a page that is not held.
+            count += 1;
+            let prefix = &mut prefix[..count];
+            if !buffer.try_read_held(offset, prefix) {
+                return None;
+            }
+            match read_varint32(prefix) {
+                Ok(found) => return Some(found),
+                Err(_) => {}
+            }
+        }
+        None
+    }
+
+    // The item of the frame at an offset, where the frame is in memory and the item decodes.
+    fn held_frame(&self, buffer: &PageBlob<S>, offset: u64) -> Result<Option<V>, Error>
+        ensures { GetsHeld S.seal_of buffer.now offset V.spelling V.accepted V.refusal
+            self.now.codec_config result }
+    {
+        let Some((size, header)) = Self::held_length(buffer, offset) else {
+            return Ok(None);
+        };
+        let left = buffer.size().saturating_sub(offset);
+        let whole = header as u64 + u64::from(size);
+        if left < whole {
+            return Ok(None);
+        }
+        let mut bytes = vec![in self.alloc; 0; size as usize]?;
+        if !buffer.try_read_held(offset + header as u64, bytes.as_mut_slice()) {
+            return Ok(None);
+        }
+        match V::decode_cfg(self.alloc, bytes.as_slice(), self.codec_config) {
+            Ok(item) => Ok(Some(item)),
+            Err(error) => match error {
+                codec::Error::Mem => Err(Error::Mem),
+                _ => Ok(None),
+            },
+        }
+    }
+
+    /// What [`get`](Journal::get) would give, where all bytes of the frame are in memory and its item
+    /// decodes; else none. It makes no call of the device.
+    pub fn try_get_sync(&self, section: u64, offset: u64) -> Result<Option<V>, Error>
+        ensures { TriesGet S.seal_of V.spelling V.accepted V.refusal (config_of self.now)
+            section offset (shown self.now) result }
+    {
+        let Ok(buffer) = self.buffer_of(section) else {
+            return Ok(None);
+        };
+        self.held_frame(buffer, offset)
     }
 }

@@ -5,8 +5,9 @@ use Rattle.section_manager.specs.lemmas.Seen.{err_same}
 use Rattle.segments.specs.lemmas.adding.Adding.{error_is, mem_not_full, mem_not_pruned}
 use Rattle.segments.specs.lemmas.adding.Write.{are_pages}
 use Rattle.segments.specs.lemmas.held.Passing.{no_error}
+use Rattle.variable_journal.specs.lemmas.Adding.{below_large}
 use Rattle.variable_journal.specs.Shown.{shown}
-use Rattle.variable_journal.proofs.AddingLemmas.{added, below_large, not_added, refused, spelled_as}
+use Rattle.variable_journal.proofs.AddingLemmas.{added, not_added, refused, spelled_as}
 use Rattle.variable_journal.proofs.journal.Journal.append.Goals as goal
 use Rattle.blob_device.proofs.general.Results.{err_of}
 

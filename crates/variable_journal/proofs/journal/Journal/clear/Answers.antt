@@ -3,7 +3,7 @@ use Rattle.blob_device.specs.Timeline.{disk}
 use Rattle.section_manager.specs.lemmas.Seen.{failed_again}
 use Rattle.segments.specs.FixedShown as bytes
 use Rattle.variable_journal.specs.Shown.{shown}
-use Rattle.variable_journal.proofs.SectionLemmas.{framed_again, gone_bytes}
+use Rattle.variable_journal.specs.lemmas.Section.{framed_again, gone_bytes}
 use Rattle.variable_journal.proofs.journal.Journal.clear.Goals as goal
 use Rattle.blob_device.proofs.general.Results.{err_of}
 

@@ -5,8 +5,9 @@ use Rattle.blob_device.specs.Timeline.{disk}
 use Rattle.section_manager.specs.contracts.sealed.PageBlobSectionBuffer.TheImpl.{ghosts}
 use Rattle.segments.specs.FixedShown as bytes
 use Rattle.segments.specs.lemmas.held.Passing.{guard_ok, guard_on, pruned_on}
+use Rattle.variable_journal.specs.lemmas.Section.{framed_again}
 use Rattle.variable_journal.specs.Shown.{shown}
-use Rattle.variable_journal.proofs.SectionLemmas.{framed_again, synced_bytes}
+use Rattle.variable_journal.proofs.SectionLemmas.{synced_bytes}
 use Rattle.variable_journal.proofs.journal.Journal.sync.Goals as goal
 use Rattle.blob_device.proofs.general.Lists.{contains_or_not}
 use Rattle.blob_device.proofs.general.Results.{err_of}

@@ -5,9 +5,10 @@ use Rattle.section_manager.specs.contracts.sealed.PageBlobSectionBuffer.TheImpl.
 use Rattle.section_manager.specs.lemmas.Seen.{err_same, failed_again}
 use Rattle.segments.specs.FixedShown as bytes
 use Rattle.variable_journal.specs.Shown.{shown}
-use Rattle.variable_journal.proofs.SectionLemmas.{framed_again, held_or_not, settling_held, synced_bytes, not_held, unsettled_held, no_low}
+use Rattle.variable_journal.proofs.SectionLemmas.{held_or_not, settling_held, synced_bytes, not_held, unsettled_held, no_low}
 use Rattle.variable_journal.proofs.journal.Journal.sync_all.Goals as goal
 use Rattle.blob_device.proofs.general.Results.{err_of}
+use Rattle.variable_journal.specs.lemmas.Section.{framed_again}
 
 pub returns-in_err-this : goal.returns-in_err-this
 returns-in_err-this g c =

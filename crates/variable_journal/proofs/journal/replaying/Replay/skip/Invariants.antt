@@ -1,0 +1,16 @@
+use Rattle.std.specs.Prelude.{◌≡◌, Some, Ok}
+use Rattle.section_manager.specs.contracts.sealed.PageBlobSectionBuffer.TheImpl as impl
+use Rattle.segments.specs.FixedReplay.{Place}
+use Rattle.segments.specs.FixedStepping.{way_of}
+use Rattle.variable_journal.specs.Turning.{Looks}
+use Rattle.variable_journal.specs.Walking.{config_of, walk_of}
+use Rattle.variable_journal.proofs.journal.replaying.Replay.skip.Given as goal
+
+abbrev pub invariant-rest : goal.invariant-rest
+invariant-rest g l = record {
+  config : config_of l.self ≡ config_of l.fn.self;
+  looks : (r : Place) → (walk_of l.fn.self).place ≡ Some r → Looks (impl.ghosts g.row.S g.S.Seal g.S.Seal-dict) (λ f. record { page_size = f.pages.page_size; capacity = f.write_buffer; cache_pages = f.pages.cache_pages }) g.S.Seal.seal_of g.D.Device r (walk_of l.fn.self) (walk_of l.self) l.initial.dev l.dev {T = Unit {0}} (Ok tt);
+}
+
+abbrev pub decreases-rest : goal.decreases-rest
+decreases-rest g l = way_of (walk_of l.self)
