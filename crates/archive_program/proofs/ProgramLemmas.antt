@@ -1,6 +1,6 @@
 -- What a call of the program comes to, by what its parts came to: each lemma is named as the field of `Runs`, or of `RunsJob`, that it proves.
 use Rattle.std.specs.Prelude.{◌≢◌, Option, None, IsSome, IfSome}
-use Rattle.std.proofs.Common.{◌≡◌, ◌⊎◌, inl, inr, ℕ, zero, suc, ◌+◌, ◌*◌, ◌^◌, ◌≤◌, List, [], ◌∷◌, ◌++◌, length, Contains, Result, Ok, Err, refl, sym, ap, subst, ◌∙◌, lit<, append-nil, append_assoc, length-append, arith}
+use Rattle.std.proofs.Common.{◌≡◌, ◌⊎◌, inl, inr, ℕ, zero, suc, ◌+◌, ◌^◌, ◌≤◌, List, [], ◌∷◌, ◌++◌, length, Contains, Result, Ok, Err, refl, sym, ap, subst, ◌∙◌, lit<, append-nil, append_assoc, length-append, arith}
 use Rattle.std.specs.List.{AllByRecursion}
 use Rattle.blob_device.specs.Counts.{Rose}
 use Rattle.blob_device.specs.declared.device.Device as device

@@ -323,8 +323,8 @@ impl<V: Codec, S: Seal> Replay<V, S> {
         ensures config { IfOk (seen journal.config_of result) (λ c. c ≡ config_of self) }
         ensures ends { DrainEnds
             ⟦<PageBlob<S> as SectionBuffer>⟧ ⟦<AppendFactory<S> as BufferFactory>⟧.gives
-            S.seal_of D.Device V.spelling V.accepted V.refusal (config_of self) (walk_of self) dev.old
-            (seen shown result) (seen journal.config_of result) dev.new }
+            S.seal_of D.Device V.spelling V.accepted V.refusal (config_of self) (walk_of self)
+            dev.old (seen shown result) (seen journal.config_of result) dev.new }
     {
         let mut this = self;
         'items: while let Some(next) = this.next(dev) {
