@@ -2,6 +2,7 @@
 ghost use Rattle.std.specs.Prelude.{◌≤◌, IfOk};
 ghost use Rattle.segments_tests.specs.Stores.{IsOpen};
 
+use crate::cursors::scan;
 use crate::floors::bounds_of;
 use crate::items::Low;
 use crate::reading::{ask, read};
@@ -110,6 +111,7 @@ pub fn obey(
             (Store::Items(journal), answer)
         }
         "replay" => or_closed(replay(alloc, journal, dev, step), dev),
+        "scan" => or_closed(scan(alloc, journal, dev, step), dev),
         "get" | "last" | "get-many" => {
             let answer = read(alloc, &journal, dev, step);
             (Store::Items(journal), answer)

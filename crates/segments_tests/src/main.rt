@@ -23,7 +23,8 @@
 //! POSITION`, `get-many SECTION POSITION ..`, `last SECTION` and `held SECTION POSITION`. It says
 //! its `len`, `size`, `full`, `floor`, `recovered`, `pruned` and `guard` of a section, and its
 //! `oldest`, `newest` and all `sections`. `append-bytes SECTION N ..` adds numbers by one append of the
-//! buffer.
+//! buffer. `scan PIECE COUNT SECTION KEEP` goes over all items by the cursor of a replay, COUNT at once, and
+//! cuts the section once more to KEEP items, if that is said and the section owed a replay.
 //!
 //! A manager: `manage PARTITION BUFFER CEILING`, then `append SECTION BYTES`, `take`, `make`, the
 //! syncs, `prune`, `remove`, `clear`, `destroy`, `cut` and `cut-tail SECTION SIZE`, `cut-each
@@ -37,6 +38,7 @@
 #![tactic(auto)]
 
 mod buffers;
+mod cursors;
 mod disk;
 mod floors;
 mod items;

@@ -29,7 +29,7 @@ const MOST: u64 = 64;
 pub const WRONG: &str = "WRONG";
 
 /// A replay of a journal of numbers.
-type Walk = Replay<Low, Sha256Seal>;
+pub type Walk = Replay<Low, Sha256Seal>;
 
 /// What a replay gave, how many errors that were, and whether it came to its end.
 #[derive(Drop)]
@@ -108,8 +108,8 @@ fn drained(walk: Walk, dev: &mut Memory, most: u64, given: &mut Given) -> Walk
     walk
 }
 
-// Gives the journal back.
-fn finished(walk: Walk, _dev: &Memory) -> Result<Lows, Error>
+/// Gives the journal back.
+pub fn finished(walk: Walk, _dev: &Memory) -> Result<Lows, Error>
     requires { IsWalk ⟦<PageBlob<Sha256Seal> as SectionBuffer>⟧ ⟦<AppendFactory<Sha256Seal> as BufferFactory>⟧.gives ⟦<Sha256Seal as Seal>⟧.seal_of 8 (Unit {0}) (walk_of walk) (memory_opened _dev.now) (disk (memory_time _dev.now)) }
     ensures { IfOk result (λ r. IsJournal ⟦<PageBlob<Sha256Seal> as SectionBuffer>⟧ ⟦<AppendFactory<Sha256Seal> as BufferFactory>⟧.gives ⟦<Sha256Seal as Seal>⟧.seal_of 8 (Unit {0}) (shown r) (memory_opened _dev.now) (disk (memory_time _dev.now))) }
 {
