@@ -1,6 +1,6 @@
 -- What this layer means to the layers above: of each section a list of items of any length (`Lists`), each in a
--- frame at its offset (`Frames`). What calls promise is in `Opening`, `Adding`, `Reading`, `Settling` and
--- `Removing`. What a crash leaves of a section is said of its bytes; `first_of_prefix` of `FrameLemmas` says it
+-- frame at its offset (`Frames`). What calls promise is in `Opening`, `OpeningAtMost`, `Adding`,
+-- `Reading`, `Trying`, `Settling` and `Removing`, and of a replay in `Replaying`, `Advancing` and `Finishing`. What a crash leaves of a section is said of its bytes; `first_of_prefix` of `FrameLemmas` says it
 -- of its items.
 pub mod Adding
 pub mod Advancing

@@ -2,7 +2,7 @@
 //! `segments`.
 //!
 //! ```rust
-//! let journal = Journal::<Vec<u8>, Sha256Seal>::init(alloc, &mut dev, &cfg)?;
+//! let journal = Journal::<ByteValue, Sha256Seal>::init(alloc, &mut dev, &cfg)?;
 //! let (journal, offset, size) = journal.append(&mut dev, 4, &item)?;   // its frame stands at the offset
 //! let journal = journal.sync(&mut dev, &[4])?;
 //! journal.get(&mut dev, 4, offset)?                                    // the item

@@ -42,6 +42,7 @@ impl<V: Codec, S: Seal> Journal<V, S> {
             D.Device (seen shown result) cfg.now.codec_config (seen config_of result)
             dev.old dev.new }
     {
+        // What a blob reads as settles as it is opened, so that no crash takes back what was given.
         let bytes = fixed::Journal::init(alloc, dev, &cfg.of_bytes()?)?;
         Ok(Journal {
             alloc,
@@ -70,13 +71,14 @@ impl<V: Codec, S: Seal> Journal<V, S> {
             cfg.now.pages cfg.now.write_buffer D.Device (seen shown result) (seen config_of result)
             dev.old dev.new }
     {
+        // The later sections go before the cut, so that a crash leaves none behind a section that is cut.
         let bytes = fixed::Journal::open_at_most(alloc, dev, &cfg.of_bytes()?, section, end)?;
         let journal = Journal {
             alloc,
             bytes,
             codec_config: cfg.codec_config,
         };
-        // Behind the cut: what stands above the bound is not judged.
+        // After the cut: what stands above the bound is not judged.
         let replay = journal.replay(dev, 0, 0, cfg.write_buffer)?;
         replay.drain(dev)
     }

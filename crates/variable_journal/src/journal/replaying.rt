@@ -158,6 +158,7 @@ impl<V: Codec, S: Seal> Replay<V, S> {
             (walk_of self.old) (walk_of self.new) dev.old dev.new result }
     {
         let Some((section, offset)) = self.bytes.place() else {
+            // The section's bytes are flushed first, so that all of them are read from the blob.
             self.bytes.enter(dev)?;
             return Ok(None);
         };
@@ -295,7 +296,7 @@ impl<V: Codec, S: Seal> Replay<V, S> {
         let Some((_, kept)) = self.bytes.place() else {
             return Ok(None);
         };
-        // The first cut, to the sealed prefix.
+        // The first cut, to the sealed prefix: where a frame is torn is known only of sealed bytes.
         self.bytes.end(dev)?;
         if kept <= offset {
             return Ok(None);
