@@ -1,15 +1,15 @@
 -- How an append of a frame ends, from what the append of its bytes did.
-use Rattle.std.proofs.Common.{◌≡◌, ◌⊎◌, ◌↔◌, ◌∙◌, inl, inr, ℕ, ◌^◌, ◌<◌, ◌≤◌, List, [], ◌++◌, ◌∷◌, length, Some, Result, Ok, Err, refl, sym, ap, subst, arith}
+use Rattle.std.proofs.Common.{◌≡◌, ◌⊎◌, ◌↔◌, ◌∙◌, inl, inr, ℕ, ◌+◌, ◌^◌, ◌<◌, ◌≤◌, List, [], ◌++◌, ◌∷◌, length, Option, None, Some, Result, Ok, Err, IsSome, IsSomeAnd, refl, sym, ap, subst, arith}
 use Rattle.std.specs.Result.{IsErrOf}
 use Rattle.std.proofs.Math.Nat.{div-one}
 use Rattle.std.proofs.lemmas.Bool.{cases_eq}
 use Rattle.blob_device.specs.Timeline.{disk}
 use Rattle.blob_device.specs.declared.device.Device as device
-use Rattle.sealed_pages.specs.Buffer.{IsSealed}
+use Rattle.sealed_pages.specs.Buffer.{extent, size_of, IsSealed}
 use Rattle.sealed_pages.specs.Shown.{shown}
 use Rattle.sealed_pages.specs.declared.page_blob.PageBlob.{PageBlob}
 use Rattle.section_manager.specs.Refusing.{HasFailed, IsPruned}
-use Rattle.section_manager.specs.Sections.{key_of}
+use Rattle.section_manager.specs.Sections.{key_of, IsHeld}
 use Rattle.section_manager.specs.Setting.{Setting}
 use Rattle.section_manager.specs.declared.buffer.SectionBuffer as buffer
 use Rattle.section_manager.specs.declared.journal.Error.{Error}
@@ -17,8 +17,8 @@ use Rattle.section_manager.specs.declared.journal.Error.TheVariants.{Full, Mem, 
 use Rattle.section_manager.specs.declared.sealed.AppendFactory.{AppendFactory}
 use Rattle.section_manager.specs.lemmas.Seen.{err_same, failed_again}
 use Rattle.segments.specs.FixedAdding as bytes
-use Rattle.segments.specs.FixedAdding.{WouldOverfill}
-use Rattle.segments.specs.FixedLists.{Lists, section_bytes, IsRecovered}
+use Rattle.segments.specs.FixedAdding.{Overfills, WouldOverfill}
+use Rattle.segments.specs.FixedLists.{Lists, section_bytes, section_size, size_held, IsRecovered}
 use Rattle.segments.specs.lemmas.adding.Adding.{along_nothing}
 use Rattle.segments.specs.lemmas.adding.Write.{ArePages}
 use Rattle.variable_journal.specs.lemmas.Frame.{one_more}
@@ -30,6 +30,25 @@ use Rattle.variable_journal.specs.Lists.{AreFramed, IsJournal}
 abbrev pub IsWhy : (T : Type 0) → ℕ → ℕ → ℕ → Error → Type 0
 IsWhy T floor few many e = IsErrOf {T = T} (Err e) ValueTooLarge ⊎ (IsPruned {T = T} (Err e) floor
     ⊎ (IsErrOf {T = T} (Err e) Full ⊎ HasFailed {T = T} (Err e) few many))
+
+module _ {S : Type 0} {gs : _} (j : Lists (AppendFactory S) (PageBlob S gs)) (s n : ℕ) (page : (u : PageBlob S gs) → j.sections.held s ≡ Some u → u.page_size ≡ j.sections.factory.pages.page_size) where
+  held_full : (o : Option (PageBlob S gs)) → j.sections.held s ≡ o → IsSomeAnd o (λ u. 2 ^ 64 ≤ extent u.page_size (size_of (shown u) + n)) → WouldOverfill j s n
+  held_full None is full = absurd full
+  held_full (Some u) is full = subst (λ (P : ℕ). 2 ^ 64 ≤ extent P (section_size j.sections s + n)) (page u is)
+      (subst (λ (m : ℕ). 2 ^ 64 ≤ extent u.page_size (m + n)) (sym (ap size_held is)) full)
+
+  full_held : (o : Option (PageBlob S gs)) → j.sections.held s ≡ o → IsSome o → WouldOverfill j s n → IsSomeAnd o (λ u. 2 ^ 64 ≤ extent u.page_size (size_of (shown u) + n))
+  full_held None is some full = absurd (cc some)
+  full_held (Some u) is some full = subst (λ (P : ℕ). 2 ^ 64 ≤ extent P (size_of (shown u) + n)) (sym (page u is))
+      (subst (λ (m : ℕ). 2 ^ 64 ≤ extent j.sections.factory.pages.page_size (m + n)) (ap size_held is) full)
+
+  -- too many bytes for the section that is held are too many for one as long
+  pub would_overfill : Overfills j s n → WouldOverfill j s n
+  would_overfill = held_full (j.sections.held s) refl
+
+  -- and the other way round
+  pub does_overfill : IsHeld j.sections s → WouldOverfill j s n → Overfills j s n
+  does_overfill = full_held (j.sections.held s) refl
 
 -- the bytes that were added, by another name
 pub spelled_as : {S D T : Type 0} {gs : _} (g : buffer.Ghosts (PageBlob S gs)) (gives : AppendFactory S → Setting) (seal : List ℕ → ℕ) (dev : device.Ghosts D)
@@ -48,11 +67,11 @@ module _ {S D : Type 0} {gs : _} (seal : List ℕ → ℕ) (g : buffer.Ghosts (P
   -- it refused before the bytes were added
   pub refused : (e : Error) → (IsErrOf {T = Lists (AppendFactory S) (PageBlob S gs) × ℕ × ℕ} (Err e) ValueTooLarge ↔ (2 ^ 32 ≤ length spelled))
       → (IsPruned {T = Lists (AppendFactory S) (PageBlob S gs) × ℕ × ℕ} (Err e) j.sections.floor ↔ ((length spelled < 2 ^ 32) × (s < j.sections.floor)))
-      → (IsErrOf {T = Lists (AppendFactory S) (PageBlob S gs) × ℕ × ℕ} (Err e) Full → ⊥)
-      → (length spelled < 2 ^ 32 → j.sections.floor ≤ s → e ≡ Mem)
+      → (IsErrOf {T = Lists (AppendFactory S) (PageBlob S gs) × ℕ × ℕ} (Err e) Full → dev.Tells ⊎ IsHeld j.sections s → WouldOverfill j s (length (frame spelled)))
+      → (length spelled < 2 ^ 32 → j.sections.floor ≤ s → (e ≡ Full) ⊎ (e ≡ Mem))
       → IsWhy (Lists (AppendFactory S) (PageBlob S gs) × ℕ × ℕ) j.sections.floor (dev.faults old) (dev.faults old) e
       → Appends g gives seal dev s spelled j (Err e) cfg (Err e) old old
-  refused e large guard not_full mem cause =
+  refused e large guard full why cause =
       let along = along_nothing seal 1 g are gives dev j s old journal.bytes recovered (frame spelled) (length (frame spelled)) in
       record {
         over = tt;
@@ -77,18 +96,19 @@ module _ {S D : Type 0} {gs : _} (seal : List ℕ → ℕ) (g : buffer.Ghosts (P
         large = large;
         guard = guard;
         refuses = λ which. refl;
-        full = λ is which. absurd (not_full is);
-        full_first = λ small le u held big. inr (ap Err (mem small le));
+        full = full;
+        full_refuses = λ is held. refl;
+        full_first = λ small le u held big. elim (why small le) [ inl is ↦ inl (ap Err is) | inr is ↦ inr (ap Err is) ];
         room = tt;
         faults = along.faults;
         cause = cause;
       }
 
   module _ {T : Type 0} (see : T → Lists (AppendFactory S) (PageBlob S gs) × ℕ) (fits : length spelled < 2 ^ 32) (new : D) where
-    -- it refused while they were
-    pub not_added : (e : Error) → bytes.Appends j s g gives seal 1 (frame spelled) (length (frame spelled)) (WouldOverfill j s (length (frame spelled))) dev (Err e) see old new
+    -- it refused while they were, though there was room
+    pub not_added : (e : Error) → (IsHeld j.sections s → WouldOverfill j s (length (frame spelled)) → ⊥) → bytes.Appends j s g gives seal 1 (frame spelled) (length (frame spelled)) (WouldOverfill j s (length (frame spelled))) dev (Err e) see old new
         → Appends g gives seal dev s spelled j (Err e) cfg (Err e) old new
-    not_added e b = record {
+    not_added e room b = record {
       over = tt;
       offset = tt;
       sized = tt;
@@ -112,6 +132,7 @@ module _ {S D : Type 0} {gs : _} (seal : List ℕ → ℕ) (g : buffer.Ghosts (P
       guard = (λ is. (fits, b.guard.0 (err_same is)), λ low. err_same (b.guard.1 low.1));
       refuses = λ which. elim which [ inl big ↦ absurd (omega (arith, big, fits)) | inr low ↦ b.refuses low ];
       full = λ is which. b.full (err_same is) which;
+      full_refuses = λ is held. absurd (room held (b.full (err_same is) (inr held)));
       full_first = λ small le u held big. elim (b.full_first le u held big) [ inl is ↦ inl (err_same is) | inr is ↦ inr (err_same is) ];
       room = tt;
       faults = b.faults;
@@ -158,6 +179,7 @@ module _ {S D : Type 0} {gs : _} (seal : List ℕ → ℕ) (g : buffer.Ghosts (P
       guard = (λ is. absurd (cc is), λ low. absurd (let is = b.guard.1 low.1 in cc is));
       refuses = λ which. elim which [ inl big ↦ absurd (omega (arith, big, fits)) | inr low ↦ b.refuses low ];
       full = λ is which. absurd (cc is);
+      full_refuses = λ is held. absurd (cc is);
       full_first = λ small le u held big. absurd (elim (b.full_first le u held big) [ inl is ↦ cc is | inr is ↦ cc is ]);
       room = b.room;
       faults = b.faults;

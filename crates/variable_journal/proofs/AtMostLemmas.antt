@@ -1,5 +1,5 @@
 -- An opening of a journal of frames up to a byte of a section, as the code comes to it.
-use Rattle.std.specs.Prelude.{◌≡◌, ℕ, ◌<◌, List, Option, Some, None, Result, Ok, Err, IfOk, IsSomeAnd}
+use Rattle.std.specs.Prelude.{◌≡◌, ℕ, ◌<◌, ◌≤◌, List, Option, Some, None, Result, Ok, Err, IfOk, IsSomeAnd}
 use Rattle.std.proofs.Common.{inl, inr, refl, sym, ap, ◌∙◌, subst, arith}
 use Rattle.blob_device.specs.Timeline.{disk, Always}
 use Rattle.blob_device.specs.declared.device.Device as device
@@ -23,7 +23,7 @@ use Rattle.variable_journal.specs.Draining.{DrainEnds}
 use Rattle.variable_journal.specs.Lists.{IsJournal}
 use Rattle.variable_journal.specs.OpeningAtMost.{BoundingFrames, OpensTo}
 use Rattle.variable_journal.specs.Replaying.{IsStart, kept_here}
-use Rattle.variable_journal.proofs.BoundLemmas.{begun, bounding_frames, bounding_start, framed_mid}
+use Rattle.variable_journal.proofs.BoundLemmas.{begun, bounding_frames, bounding_start, framed_mid, settled_always}
 use Rattle.variable_journal.proofs.OffsetLemmas.{start_boundary}
 use Rattle.variable_journal.proofs.OpenedLemmas.{drained_opens, stopped_opens}
 
@@ -44,9 +44,10 @@ module _ {S V C D : Type 0} {gs : _} (seal : List ℕ → ℕ) (g : buffer.Ghost
   OpensFrames place paged capacity result kept new = OpensTo seal paged.page_size place last end spelling accepted config refusal g gives paged capacity dev result kept old new
 
   -- there was no memory for the name of the partition
-  pub unbegun : (place : List ℕ) (paged : Pages) (capacity : ℕ) (kept : Result C Error) → IfOk kept (λ c. c ≡ config) → OpensFrames place paged capacity (Err Mem) kept old
-  unbegun place paged capacity kept config_is = record {
-    moments = λ t. always_start (dev.time old) (BoundingFrames seal paged.page_size place last end (disk (dev.time old))) (bounding_start seal paged.page_size place last end (disk (dev.time old)));
+  pub unbegun : (place : List ℕ) (paged : Pages) → 1 ≤ paged.page_size → (capacity : ℕ) (kept : Result C Error) → IfOk kept (λ c. c ≡ config) → OpensFrames place paged capacity (Err Mem) kept old
+  unbegun place paged pos capacity kept config_is = record {
+    moments = moments;
+    settled = λ t. settled_always seal paged.page_size pos place last end (dev.time old) (dev.time old) (moments t);
     ends = tt;
     same_config = config_is;
     names = record {
@@ -61,12 +62,21 @@ module _ {S V C D : Type 0} {gs : _} (seal : List ℕ → ℕ) (g : buffer.Ghost
     refused = λ t e is. absurd (cc is);
     cause = inr (inr (inl (inl refl)));
   }
+    where
+      moments : dev.Tells → Always (dev.time old) (dev.time old) (BoundingFrames seal paged.page_size place last end (disk (dev.time old)))
+      moments t = always_start (dev.time old) (BoundingFrames seal paged.page_size place last end (disk (dev.time old))) (bounding_start seal paged.page_size place last end (disk (dev.time old)))
 
-  module _ (place other : List ℕ) (paged held : Pages) (capacity most : ℕ) (same_place : other ≡ place) (same_pages : held ≡ paged) (same_capacity : most ≡ capacity) (middle : D) where
+  module _ (place other : List ℕ) (paged held : Pages) (capacity most : ℕ) (same_place : other ≡ place) (same_pages : held ≡ paged) (same_capacity : most ≡ capacity) (middle : D) (pos : 1 ≤ paged.page_size) where
     -- by the names of the configuration
     bounds_as : (result : Result (Lists (AppendFactory S) (PageBlob S gs)) Error) → BoundsBytes other held most result middle → BoundsBytes place paged capacity result middle
     bounds_as result b = subst (λ (p : List ℕ). BoundsBytes p paged capacity result middle) same_place
         (subst (λ (p : Pages). BoundsBytes other p capacity result middle) same_pages (subst (λ (n : ℕ). BoundsBytes other held n result middle) same_capacity b))
+
+    -- at each moment of it
+    first : (dev.Tells → Always (dev.time old) (dev.time middle) (Bounding seal paged.page_size 1 place last end (disk (dev.time old))))
+        → dev.Tells → Always (dev.time old) (dev.time middle) (BoundingFrames seal paged.page_size place last end (disk (dev.time old)))
+    first moments t = always_weaker (dev.time old) (dev.time middle) (Bounding seal paged.page_size 1 place last end (disk (dev.time old))) (BoundingFrames seal paged.page_size place last end (disk (dev.time old)))
+        (λ d is. bounding_frames seal paged.page_size place last end (disk (dev.time old)) d is) (moments t)
 
     -- the opening of bytes failed
     pub unopened : (e : Error) (kept : Result C Error) → IfOk kept (λ c. c ≡ config) → BoundsBytes other held most (Err e) middle
@@ -74,8 +84,8 @@ module _ {S V C D : Type 0} {gs : _} (seal : List ℕ → ℕ) (g : buffer.Ghost
     unopened e kept config_is b why =
         let own = bounds_as (Err e) b in
         record {
-          moments = λ t. always_weaker (dev.time old) (dev.time middle) (Bounding seal paged.page_size 1 place last end (disk (dev.time old))) (BoundingFrames seal paged.page_size place last end (disk (dev.time old)))
-              (λ d is. bounding_frames seal paged.page_size place last end (disk (dev.time old)) d is) (own.moments t);
+          moments = first own.moments;
+          settled = λ t. settled_always seal paged.page_size pos place last end (dev.time old) (dev.time middle) (first own.moments t);
           ends = tt;
           same_config = config_is;
           names = own.names;
@@ -107,10 +117,8 @@ module _ {S V C D : Type 0} {gs : _} (seal : List ℕ → ℕ) (g : buffer.Ghost
       sized : (gives j.sections.factory).page_size ≡ paged.page_size
       sized = sizes j.sections.factory ∙ ap (λ (p : Pages). p.page_size) own.ends.whole.pages_are
 
-      first : dev.Tells → Always (dev.time old) (dev.time middle) (BoundingFrames seal paged.page_size j.sections.partition last end (disk (dev.time old)))
-      first t = subst (λ (p : List ℕ). Always (dev.time old) (dev.time middle) (BoundingFrames seal paged.page_size p last end (disk (dev.time old)))) (sym at)
-          (always_weaker (dev.time old) (dev.time middle) (Bounding seal paged.page_size 1 place last end (disk (dev.time old))) (BoundingFrames seal paged.page_size place last end (disk (dev.time old)))
-          (λ d is. bounding_frames seal paged.page_size place last end (disk (dev.time old)) d is) (own.moments t))
+      first_here : dev.Tells → Always (dev.time old) (dev.time middle) (BoundingFrames seal paged.page_size j.sections.partition last end (disk (dev.time old)))
+      first_here t = subst (λ (p : List ℕ). Always (dev.time old) (dev.time middle) (BoundingFrames seal paged.page_size p last end (disk (dev.time old)))) (sym at) (first own.moments t)
 
       never : dev.Tells → (name : List ℕ) → IsForeign (disk (dev.time old)) place name → ⊥
       never t name bad = elim (own.names.foreign t name bad) [
@@ -133,9 +141,9 @@ module _ {S V C D : Type 0} {gs : _} (seal : List ℕ → ℕ) (g : buffer.Ghost
 
       drained_ends : (new : D) (result : Result (Lists (AppendFactory S) (PageBlob S gs)) Error) (kept : Result C Error) → IfOk kept (λ c. c ≡ config)
           → DrainEnds g gives seal dev spelling accepted refusal config (begun j) middle result kept new → OpensFrames place paged capacity result kept new
-      drained_ends new (Ok k) kept config_is d = drained_opens seal paged.page_size g laws gives dev last end paged capacity j old middle cut sized first spelling accepted refusal config d.last new d.come k kept d.drained d.finished
+      drained_ends new (Ok k) kept config_is d = drained_opens seal paged.page_size pos g laws gives dev last end paged capacity j old middle cut sized first_here spelling accepted refusal config d.last new d.come k kept d.drained d.finished
           place at never own.entries own.faults
-      drained_ends new (Err e) kept config_is d = stopped_opens seal paged.page_size g laws gives dev last end paged capacity j old middle cut sized first spelling accepted refusal config d.last d.at d.come d.after new e d.error
+      drained_ends new (Err e) kept config_is d = stopped_opens seal paged.page_size pos g laws gives dev last end paged capacity j old middle cut sized first_here spelling accepted refusal config d.last d.at d.come d.after new e d.error
           place at kept config_is never own.entries own.faults
 
       -- and was gone over

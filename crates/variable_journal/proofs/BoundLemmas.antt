@@ -1,21 +1,23 @@
 -- A journal of frames that was opened up to a byte of a section: what its blobs are while it is gone over.
-use Rattle.std.specs.Prelude.{◌≡◌, ◌⊎◌, ℕ, ◌*◌, ◌/◌, ◌^◌, ◌<◌, ◌≤◌, min, eqb, cond, Bool, false, true, List, [], length, take, Option, Some, None, IsTrue, IsSomeAnd}
+use Rattle.std.specs.Prelude.{◌≡◌, ◌⊎◌, ℕ, ◌*◌, ◌/◌, ◌^◌, ◌<◌, ◌≤◌, min, eqb, cond, Bool, false, true, List, [], length, take, Option, Some, None, IsTrue}
 use Rattle.std.proofs.Common.{inl, inr, refl, sym, ap, ◌∙◌, subst, arith, length-take}
 use Rattle.std.proofs.Math.Seq.{take-length}
 use Rattle.std.proofs.lemmas.Bool.{cases_lt}
 use Rattle.std.proofs.lemmas.Bool.Decides.{nat_tests}
-use Rattle.std.proofs.lemmas.List.{take-take, take_all, take_min}
-use Rattle.blob_device.specs.Disk.{Key, Blob, Disk, past}
+use Rattle.std.proofs.lemmas.List.{take_all, take_min}
+use Rattle.blob_device.specs.Disk.{Key, Blob, Disk}
 use Rattle.blob_device.specs.Opened.{OpenedList}
-use Rattle.blob_device.specs.Timeline.{Each}
+use Rattle.blob_device.specs.Timeline.{Timeline, disk, Always, Each}
+use Rattle.blob_device.specs.lemmas.Moments.{always_weaker}
 use Rattle.sealed_pages.specs.Buffer.{bytes_of}
-use Rattle.sealed_pages.specs.ChanceSeal.{Leaves, NoChanceSeal}
-use Rattle.sealed_pages.specs.SealedPrefix.{sealed_prefix, adopted_size, Prefix}
+use Rattle.sealed_pages.specs.ChanceSeal.{Leaves}
+use Rattle.sealed_pages.specs.Cutting.{StandsSettled}
+use Rattle.sealed_pages.specs.SealedPrefix.{sealed_prefix, adopted_size}
 use Rattle.sealed_pages.specs.Shown.{shown}
 use Rattle.sealed_pages.specs.View.{view}
 use Rattle.sealed_pages.specs.declared.page_blob.PageBlob.{PageBlob}
 use Rattle.sealed_pages.specs.declared.pages.Pages.{Pages}
-use Rattle.sealed_pages.specs.lemmas.Reaching.{prefix_size}
+use Rattle.sealed_pages.specs.lemmas.Reaching.{prefix_size, rest_leaves}
 use Rattle.sealed_pages.specs.lemmas.adopted.Adopt.{length-data_from}
 use Rattle.segments.specs.lemmas.adding.Write.{ArePages, bytes_here}
 use Rattle.variable_journal.specs.lemmas.Frame.{rest_none}
@@ -30,23 +32,12 @@ use Rattle.section_manager.specs.lemmas.Keys.{key_injective}
 use Rattle.segments.specs.FixedBounds.{bounded_size, whole_of, Bounding, IsOpenedCut}
 use Rattle.segments.specs.FixedLists.{Lists, bytes_held, section_bytes}
 use Rattle.segments.specs.FixedReplay.{Walk, kept_of}
-use Rattle.variable_journal.specs.Frames.{rest_of, whole_end}
+use Rattle.variable_journal.specs.Frames.{rest_of, whole_end, HasBadLength}
 use Rattle.variable_journal.specs.Lists.{AreFramed}
-use Rattle.variable_journal.specs.OpeningAtMost.{BoundingFrames, IsThere, judged, judged_bytes}
+use Rattle.variable_journal.specs.OpeningAtMost.{BoundingFrames, IsThere, LeavesSettled, judged, judged_bytes}
 use Rattle.variable_journal.specs.Replaying.{ReplayingFrames, given_bytes}
+use Rattle.variable_journal.proofs.LeavingLemmas.{leaves_on}
 use Rattle.blob_device.proofs.general.Options.{some_of, some_there}
-
--- what leaves so many of the first bytes leaves fewer of all of them
-leaves_on : (seal : List ℕ → ℕ) (P least less : ℕ) (xs bytes : List ℕ) (b : Blob) → xs ≡ take (length xs) bytes → length xs ≤ length bytes → less ≤ least → Leaves seal P xs least b → Leaves seal P bytes less b
-leaves_on seal P least less xs bytes b own within le leaves left may = go left (leaves left may)
-  where
-    go : (l : Option (List ℕ)) → IsSomeAnd l (λ c. NoChanceSeal seal P (past b) c → Prefix seal P xs least c) → IsSomeAnd l (λ c. NoChanceSeal seal P (past b) c → Prefix seal P bytes less c)
-    go None has = has
-    go (Some c) has = λ no. (let p = has no in record {
-      is = p.is ∙ ap (take (length (sealed_prefix seal P c))) own ∙ take-take (length (sealed_prefix seal P c)) (length xs) bytes p.no_longer;
-      no_shorter = omega (arith, le, p.no_shorter);
-      no_longer = omega (arith, within, p.no_longer);
-    })
 
 no_bytes : (xs ys : List ℕ) → length xs ≡ 0 → length ys ≡ 0 → xs ≡ ys
 no_bytes xs ys one two = sym (take_all 0 xs (omega (arith, one))) ∙ take_all 0 ys (omega (arith, two))
@@ -97,9 +88,42 @@ bounding_frames seal P partition last end from d b = record {
         inr (leaves_on seal P (bounded_size seal P 1 partition last end s content) (whole_end (judged_bytes seal P partition last end from s)) prefix prefix (d (section_key partition s)) (sym (take-length prefix)) (omega arith)
         (omega (arith, judged_long seal P partition last end s content, whole_within (judged_bytes seal P partition last end from s))) leaves))
   ];
+  lengths = λ s le there bad. elim (b.kept s le there) [
+    | inl same ↦ inl same
+    | inr leaves ↦ (
+        let content = (from (section_key partition s)).content in
+        inr (subst (λ (n : ℕ). Leaves seal P (sealed_prefix seal P content) n (d (section_key partition s))) (judged_long seal P partition last end s content) leaves))
+  ];
   first = b.first;
   others = b.others;
 }
+
+-- of a blob that had settled each crash leaves what is kept
+pub leaves_settled : (seal : List ℕ → ℕ) (P : ℕ) → 1 ≤ P → (partition : List ℕ) (last end : ℕ) (from d : Disk) → BoundingFrames seal P partition last end from d
+    → (s : ℕ) → s ≤ last → IsThere seal P partition last end from s → StandsSettled (from (section_key partition s)) → LeavesSettled seal P partition last end from d s
+leaves_settled seal P pos partition last end from d b s le there settled = record {
+  frames = elim (b.kept s le there) [
+    | inr leaves ↦ leaves
+    | inl same ↦ as_it_was same (whole_end kept) (omega (arith, whole_within kept, judged_within seal P partition last end s (from q).content))
+  ];
+  lengths = λ bad. elim (b.lengths s le there bad) [ inr leaves ↦ leaves | inl same ↦ as_it_was same (length kept) (judged_within seal P partition last end s (from q).content) ];
+}
+  where
+    q : Key
+    q = section_key partition s
+
+    kept : List ℕ
+    kept = judged_bytes seal P partition last end from s
+
+    as_it_was : d q ≡ from q → (n : ℕ) → n ≤ length (sealed_prefix seal P (from q).content) → Leaves seal P (sealed_prefix seal P (from q).content) n (d q)
+    as_it_was same n le_n = (let prefix = sealed_prefix seal P (from q).content in
+        subst (Leaves seal P prefix n) (sym same) (leaves_on seal P (length prefix) n prefix prefix (from q) (sym (take-length prefix)) (omega arith) le_n (rest_leaves seal P (from q) pos settled)))
+
+pub settled_always : (seal : List ℕ → ℕ) (P : ℕ) → 1 ≤ P → (partition : List ℕ) (last end : ℕ) (a b : Timeline) → Always a b (BoundingFrames seal P partition last end (disk a))
+    → Always a b (λ d. (s : ℕ) → s ≤ last → IsThere seal P partition last end (disk a) s → StandsSettled (disk a (section_key partition s)) → LeavesSettled seal P partition last end (disk a) d s)
+settled_always seal P pos partition last end a b always = always_weaker a b (BoundingFrames seal P partition last end (disk a))
+    (λ d. (s : ℕ) → s ≤ last → IsThere seal P partition last end (disk a) s → StandsSettled (disk a (section_key partition s)) → LeavesSettled seal P partition last end (disk a) d s)
+    (leaves_settled seal P pos partition last end (disk a)) always
 
 -- before any call
 pub bounding_start : (seal : List ℕ → ℕ) (P : ℕ) (partition : List ℕ) (last end : ℕ) (d : Disk) → BoundingFrames seal P partition last end d d
@@ -107,9 +131,14 @@ bounding_start seal P partition last end d = record {
   later = λ s lt there. inl refl;
   order = λ s t lt less there also. inl refl;
   kept = λ s le there. inl refl;
+  lengths = λ s le there bad. inl refl;
   first = λ s le there. inl refl;
   others = λ q never. refl;
 }
+
+cases_owes : (b : Bool) → (b ≡ false) ⊎ IsTrue b
+cases_owes false = inl refl
+cases_owes true = inr refl
 
 -- the replay of a journal from its start on
 abbrev pub begun : {F B : Type 0} → Lists F B → Walk F B
@@ -246,10 +275,33 @@ module _ {S : Type 0} {gs : _} (seal : List ℕ → ℕ) (P : ℕ) (g : buffer.G
               ])
           | inr cuts ↦ leaves_kept s (held_of s there le) cuts.buffer cuts.section cuts.held whole_end (λ l. omega arith) (d (key_of j.sections s)) cuts.leaves
         ]
+
+        -- where a length is refused, no bytes are cut off
+        now_lengths : (s : ℕ) → s ≤ last → IsThere seal P j.sections.partition last end from s → HasBadLength (rest_of (kept s))
+            → (d (key_of j.sections s) ≡ from (key_of j.sections s)) ⊎ Leaves seal P (prefix s) (length (kept s)) (d (key_of j.sections s))
+        now_lengths s le there bad = elim (each (key_of j.sections s)) [
+          | inr cuts ↦ absurd (cuts.torn (subst (λ (l : List ℕ). HasBadLength (rest_of l))
+              (sym (ap (λ (Q : ℕ). sealed_prefix seal Q (mid (key_of j.sections s)).content) (page_of cuts.section cuts.buffer cuts.held) ∙ prefix_mid s held)) bad))
+          | inl rep ↦ elim (cases_owes (j.unrecovered s)) [
+            | inl free ↦ still (rep.still s u.0 u.1 (all_settled (shown u.0) (cut.whole.idle s u.0 u.1), inl free) refl)
+            | inr owed ↦ elim (rep.cut s u.0 u.1 owed refl) [
+              | inl same ↦ still same
+              | inr leaves ↦ inr (leaves_on seal P (length (kept s) / 1 * 1) (length (kept s)) (kept s) (prefix s) (d (key_of j.sections s))
+                  (judged_own seal P j.sections.partition last end s (from (key_of j.sections s)).content) (judged_within seal P j.sections.partition last end s (from (key_of j.sections s)).content) (omega arith)
+                  (subst (λ (l : List ℕ). Leaves seal P l (length l / 1 * 1) (d (key_of j.sections s))) (prefix_mid s held)
+                  (subst (λ (Q : ℕ). Leaves seal Q (sealed_prefix seal Q (mid (key_of j.sections s)).content) (length (sealed_prefix seal Q (mid (key_of j.sections s)).content) / 1 * 1) (d (key_of j.sections s))) (page_of s u.0 u.1) leaves.1)))
+            ]
+          ]
+        ]
           where
-            cases_owes : (b : Bool) → (b ≡ false) ⊎ IsTrue b
-            cases_owes false = inl refl
-            cases_owes true = inr refl
+            held : IsHeld j.sections s
+            held = held_of s there le
+
+            u : (v : PageBlob S gs) × (j.sections.held s ≡ Some v)
+            u = some_of (j.sections.held s) held
+
+            still : d (key_of j.sections s) ≡ mid (key_of j.sections s) → (d (key_of j.sections s) ≡ from (key_of j.sections s)) ⊎ Leaves seal P (prefix s) (length (kept s)) (d (key_of j.sections s))
+            still same = subst (λ (b : Blob). (b ≡ from (key_of j.sections s)) ⊎ Leaves seal P (prefix s) (length (kept s)) b) (sym same) (before.lengths s le there bad)
 
         pub bounding_now : BoundingFrames seal P j.sections.partition last end from d
         bounding_now = record {
@@ -259,6 +311,7 @@ module _ {S : Type 0} {gs : _} (seal : List ℕ → ℕ) (P : ℕ) (g : buffer.G
             | inr none ↦ inr (later_still q (omega (arith, lt, less)) also.0 ∙ none)
           ];
           kept = now_kept;
+          lengths = now_lengths;
           first = λ s le there. inr (inr (λ q lt has. later_still q lt has.0 ∙ cut.whole.gone t q lt has));
           others = λ q never. other_still q (λ s held is. never s (there_of s held).0 is) ∙ before.others q never;
         }

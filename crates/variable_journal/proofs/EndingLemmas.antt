@@ -1,5 +1,5 @@
 -- A replay of frames ends a section, of which no whole frame is left from the place on.
-use Rattle.std.specs.Prelude.{◌≡◌, ◌≢◌, ◌⊎◌, ℕ, ◌+◌, ◌*◌, ◌%◌, ◌<◌, ◌≤◌, Bool, false, true, List, [], length, drop, Option, Some, None, Result, Ok, Err, IfSome, IsTrue, IsSome, IsSomeAnd}
+use Rattle.std.specs.Prelude.{◌≡◌, ◌≢◌, ◌⊎◌, ℕ, ◌+◌, ◌*◌, ◌<◌, ◌≤◌, false, List, [], length, drop, Option, Some, None, Result, Ok, Err, IfSome, IsTrue, IsSome, IsSomeAnd}
 use Rattle.std.proofs.Common.{inl, inr, refl, sym, ap, ◌∙◌, subst, arith}
 use Rattle.std.proofs.Math.Nat.{mod-one}
 use Rattle.std.proofs.lemmas.Bool.{cases_eq}
@@ -8,7 +8,7 @@ use Rattle.blob_device.specs.Timeline.{disk}
 use Rattle.blob_device.specs.declared.device.Device as device
 use Rattle.blob_device.specs.declared.runtime.RError.TheVariants.{InvalidChecksum}
 use Rattle.value_codec.specs.declared.codec.Error as codec
-use Rattle.sealed_pages.specs.Buffer.{bytes_of, size_of, IsSealed}
+use Rattle.sealed_pages.specs.Buffer.{size_of, IsSealed}
 use Rattle.sealed_pages.specs.Shown.{shown}
 use Rattle.sealed_pages.specs.declared.page_blob.PageBlob.{PageBlob}
 use Rattle.section_manager.specs.Refusing.{HasFailed}
@@ -23,43 +23,44 @@ use Rattle.segments.specs.FixedLists.{bytes_held, section_bytes, section_size, s
 use Rattle.segments.specs.FixedReading.{HasNotRead}
 use Rattle.segments.specs.FixedReplay as bytes
 use Rattle.segments.specs.FixedReplay.{Walk, Place, IsAhead, IsGoneOver, IsIn, IsWalk, first_of, kept_bytes, kept_of}
-use Rattle.segments.specs.FixedStepping.{bytes_ahead, failing, sections_ahead, standing, way_of, word}
+use Rattle.segments.specs.FixedStepping.{bytes_ahead, sections_ahead, way_of, word}
 use Rattle.sealed_pages.specs.lemmas.memory.Holding.{bytes_length}
 use Rattle.segments.specs.lemmas.replay.Ending.{ahead_from}
 use Rattle.segments.specs.lemmas.replay.Reading.{failed_since}
 use Rattle.segments.specs.lemmas.replay.Shortening.{bytes_sealed}
 use Rattle.variable_journal.specs.lemmas.Frame.{rest_none}
 use Rattle.variable_journal.specs.lemmas.Offset.{whole_is}
-use Rattle.variable_journal.specs.lemmas.Running.{ends_then, error_then, passed_then}
+use Rattle.variable_journal.specs.lemmas.Running.{cut_ends, ends_then, error_then, passed_then, whole_none}
 use Rattle.variable_journal.specs.Frames.{rest_of, whole_end, HasBadLength}
 use Rattle.variable_journal.specs.Reading.{IsPastLast}
-use Rattle.variable_journal.specs.Replaying.{AreWalked, EndsSection, IsBoundary, IsCuttingFrames, IsItemAt, given_bytes}
+use Rattle.variable_journal.specs.Replaying.{AreWalked, EndsSection, IsCuttingFrames, IsItemAt, given_bytes}
 use Rattle.variable_journal.specs.Advancing.{GivesError, HasPassed, IsGoing}
-use Rattle.variable_journal.specs.Turning.{BytesGo, HasSkipped, HasTurned, IsFurther, Looks, stopped}
+use Rattle.variable_journal.specs.Turning.{HasSkipped, HasTurned, IsFurther, stopped}
 use Rattle.variable_journal.proofs.EnteringLemmas.{first_other, first_start}
 use Rattle.variable_journal.proofs.LookingLemmas.{and_at, at_some, disk_same, some_and}
 use Rattle.variable_journal.proofs.OffsetLemmas.{boundary_within, last_boundary, none_on, rest_empty, unread_rest}
-use Rattle.variable_journal.proofs.ShorteningLemmas.{framed_other, keeps_lost, passed_cut, walked_cut}
+use Rattle.variable_journal.proofs.ShorteningLemmas.{framed_other, keeps_lost, passed_cut, walked_cut, whole_cut}
 use Rattle.variable_journal.proofs.SteppingLemmas.{error_steps, framed_steps, given_same, keeps_stopped, passed_steps, start_steps, walk_left, walk_stopped, walked_steps, walked_stopped}
-use Rattle.variable_journal.proofs.TurningLemmas.{ends_left, passed_looked, walked_looked}
-use Rattle.blob_device.proofs.general.Options.{none_in, some_of, some_there}
+use Rattle.variable_journal.proofs.TurningLemmas.{ends_left, near_looked, passed_looked, walked_looked}
+use Rattle.blob_device.proofs.general.Options.{none_in, none_or_value, some_of, some_there}
 
 module _ {F S D V C : Type 0} {gs : _} (g : buffer.Ghosts (PageBlob S gs)) (gives : F → Setting) (seal : List ℕ → ℕ) (dev : device.Ghosts D)
     (spelling : V → List ℕ) (accepted : V → C → Type 0) (refusal : List ℕ → C → Option codec.Error) (config : C) where
   -- An error of its own behind the end of a section.
-  pub error_passed : (w k : Walk F (PageBlob S gs)) (a c : D) (s : ℕ) → HasPassed g gives seal dev w k a c → way_of k < way_of w → k.place ≡ None → (IsAhead k s → ⊥) → k.ended ≡ false
+  pub error_passed : (w k : Walk F (PageBlob S gs)) (a c : D) (s : ℕ) → HasPassed g gives seal dev w k a c → way_of k < way_of w → k.place ≡ None → (IsAhead k s → ⊥) → IsAhead w s ⊎ IsIn w s → k.ended ≡ false
       → IsGoing g gives seal dev (stopped k) c → (x : Error)
       → (dev.Tells → (p : ℕ) → x ≡ ItemOutOfRange p → (p ≡ w.start_position) × (length (given_bytes seal w (disk (dev.time a)) w.start_section) < p) × (IsAhead w w.start_section ⊎ IsIn w w.start_section) × (s ≡ w.start_section))
       → (dev.Tells → (y : codec.Error) → x ≡ Codec y → ⊥) → ((n : ℕ) → x ≡ Runtime (InvalidChecksum n) → ⊥) → ((y : Damage) → x ≡ Corruption y → ⊥)
       → (x ≡ ItemOutOfRange w.start_position) ⊎ (((y : Damage) × (x ≡ Corruption y)) ⊎ HasNotRead {T = V} (Err x) (dev.faults a) (dev.faults c))
       → GivesError g gives seal dev spelling accepted refusal config w (stopped k) a c x
-  error_passed w k a c s run nearer none not_ahead going over x start no_codec no_page no_floor cause = record {
+  error_passed w k a c s run nearer none not_ahead near going over x start no_codec no_page no_floor cause = record {
     keeps = keeps_stopped g gives seal dev w k a c run.gone.keeps;
     over = over;
     failed = refl;
     says = λ t. record {
-      stops = inr (s, ends t);
+      stops = inr (s, ends t, record { near = near; left = λ held still. elim still [ inl ahead ↦ not_ahead ahead | inr never ↦ absurd never ] });
       ends = λ is. absurd (cc (is, going));
+      cut = cut_ends g gives seal dev w (stopped k) a c (keeps_stopped g gives seal dev w k a c run.gone.keeps) t;
       start = λ p is. (let has = start t p is in (has.0, has.1, has.2, subst (EndsSection seal w (stopped k) (disk (dev.time a)) (disk (dev.time c))) has.3 (ends t)));
       refused = λ y is. absurd (no_codec t y is);
       damaged = no_page;
@@ -88,6 +89,9 @@ module _ {F S D V C : Type 0} {gs : _} (g : buffer.Ghosts (PageBlob S gs)) (give
     run : HasPassed g gives seal dev w m a b
     run = passed_looked g gives seal dev w r at a b was.bytes tt m q there skip.looks
         (λ t o i item le begun. absurd (none_on kept r.position (was.place t r at) (torn t) o i item le))
+
+    near_m : (s : ℕ) → IsAhead w s ⊎ IsIn w s → IsAhead m s ⊎ IsIn m s
+    near_m s near = near_looked g gives seal dev w r at a b was.bytes tt m q there skip.looks s near
 
     pub going_m : m.ended ≡ false
     going_m = run.gone.goes.ended ∙ going
@@ -137,8 +141,8 @@ module _ {F S D V C : Type 0} {gs : _} (g : buffer.Ghosts (PageBlob S gs)) (give
           → Ends seal 1 g gives byte_spelling byte_accepted byte_refusal dev.Tells (Err x) m k (dev.opened b) (dev.opened c) (dev.time b) (dev.time c) (dev.faults b) (dev.faults c) q
           → GivesError g gives seal dev spelling accepted refusal config w (stopped k) a c x
       ended_failed x one_byte did =
-          error_then g gives seal dev w m (stopped k) a b c run going_m spelling accepted refusal config way_m x
-          (error_steps g gives seal dev byte_spelling byte_accepted byte_refusal m k b c (Err x) did.steps did.steps.broken.over did.left spelling accepted refusal config free_m going_m one_byte x refl did.steps.broken walked_m)
+          error_then g gives seal dev w m (stopped k) a b c run going_m (λ t s near far. absurd (far (near_m s near))) spelling accepted refusal config way_m x
+          (error_steps g gives seal dev byte_spelling byte_accepted byte_refusal m k b c (Err x) did.steps did.steps.broken.over did.left spelling accepted refusal config free_m going_m skip.looks.over.walk (λ s far. subst (λ (o : Option ℕ). IsSomeAnd o (λ n. n ≤ s)) did.next far) one_byte x refl did.steps.broken walked_m)
 
       module _ (did : Ends seal 1 g gives byte_spelling byte_accepted byte_refusal dev.Tells (Ok tt) m k (dev.opened b) (dev.opened c) (dev.time b) (dev.time c) (dev.faults b) (dev.faults c) q) where
         abbrev e : Disk
@@ -156,6 +160,13 @@ module _ {F S D V C : Type 0} {gs : _} (g : buffer.Ghosts (PageBlob S gs)) (give
         not_ahead_k : IsAhead k r.section → ⊥
         not_ahead_k ahead = not_ahead_w (subst (λ (o : Option ℕ). IsSomeAnd o (λ n. n ≤ r.section)) (did.next ∙ ap (λ (y : Walk F (PageBlob S gs)). y.next_section) first.goes) ahead)
 
+        ahead_k : (s : ℕ) → IsAhead w s → IsAhead k s
+        ahead_k s ahead = subst (λ (o : Option ℕ). IsSomeAnd o (λ n. n ≤ s)) (sym (did.next ∙ ap (λ (y : Walk F (PageBlob S gs)). y.next_section) first.goes)) ahead
+
+        -- no other section is gone over
+        own_k : (s : ℕ) → IsAhead w s ⊎ IsIn w s → (IsAhead k s → ⊥) → s ≡ r.section
+        own_k s near far = elim near [ inl ahead ↦ absurd (far (ahead_k s ahead)) | inr there ↦ sym (and_at w.place (λ (p : Place). p.section ≡ s) r at there) ]
+
         given_k : dev.Tells → (s : ℕ) → IsHeld k.journal.sections s → given_bytes seal k e s ≡ given_bytes seal w d s
         given_k t s held = given_same g gives seal dev byte_spelling byte_accepted byte_refusal m k b c (Ok tt) did.steps did.steps.over.over t going_k s held ∙ given_m t s
 
@@ -167,7 +178,7 @@ module _ {F S D V C : Type 0} {gs : _} (g : buffer.Ghosts (PageBlob S gs)) (give
             go None is = ap rest_of (ap (λ (h : Option (PageBlob S gs)). kept_of seal (k.journal.unrecovered s) h (e (key_of k.journal.sections s)).content) is) ∙ rest_none
             go (Some v) is = ap rest_of (given_k t s (some_there (k.journal.sections.held s) v is)) ∙ (was.walked t).gone_over (sym run.gone.goes.failed ∙ sym did.steps.goes.failed ∙ fine) s (record {
               begun = subst (λ (n : ℕ). n ≤ s) run_k.gone.keeps.same.section over.begun;
-              not_ahead = λ ahead. over.not_ahead (subst (λ (o : Option ℕ). IsSomeAnd o (λ n. n ≤ s)) (sym (did.next ∙ ap (λ (y : Walk F (PageBlob S gs)). y.next_section) first.goes)) ahead);
+              not_ahead = λ ahead. over.not_ahead (ahead_k s ahead);
               not_in = λ in_w. other (sym (and_at w.place (λ (p : Place). p.section ≡ s) r at in_w));
             })
 
@@ -181,20 +192,19 @@ module _ {F S D V C : Type 0} {gs : _} (g : buffer.Ghosts (PageBlob S gs)) (give
             walked = λ t. walked_steps g gives seal dev byte_spelling byte_accepted byte_refusal m k b c (Ok tt) did.steps did.steps.over.over t (walked_m t) going_m (gone t);
           };
           passed = run_k;
+          whole = λ t s near far. here t s (own_k s near (λ ahead. far (inl ahead)));
           nearer = way_k;
         }
           where
-            gone : (t : dev.Tells) → k.failed ≡ false → (s : ℕ) → IsGoneOver k s → rest_of (given_bytes seal k e s) ≡ []
-            gone t fine s over = elim (cases_eq s r.section) [
-              | inr other ↦ gone_other t fine s other over
-              | inl is ↦ here (k.journal.sections.held s) refl is
+            here : dev.Tells → (s : ℕ) → s ≡ r.section → rest_of (given_bytes seal k e s) ≡ []
+            here t s is = elim (none_or_value (k.journal.sections.held s)) [
+              | inl none ↦ whole_none seal k e s none
+              | inr has ↦ (let end = and_at m.place (λ (p : Place). length (kept_at seal 1 w r d) ≤ p.position) q there (skip.end t) in
+                  ap rest_of (given_k t s (some_there (k.journal.sections.held s) has.0 has.1) ∙ ap (given_bytes seal w d) is) ∙ rest_empty kept (omega (arith, end, whole, whole_at t)))
             ]
-              where
-                here : (o : Option (PageBlob S gs)) → k.journal.sections.held s ≡ o → s ≡ r.section → rest_of (given_bytes seal k e s) ≡ []
-                here None none is = ap rest_of (ap (λ (h : Option (PageBlob S gs)). kept_of seal (k.journal.unrecovered s) h (e (key_of k.journal.sections s)).content) none) ∙ rest_none
-                here (Some v) has is =
-                    let end = and_at m.place (λ (p : Place). length (kept_at seal 1 w r d) ≤ p.position) q there (skip.end t) in
-                    ap rest_of (given_k t s (some_there (k.journal.sections.held s) v has) ∙ ap (given_bytes seal w d) is) ∙ rest_empty kept (omega (arith, end, whole, whole_at t))
+
+            gone : (t : dev.Tells) → k.failed ≡ false → (s : ℕ) → IsGoneOver k s → rest_of (given_bytes seal k e s) ≡ []
+            gone t fine s over = elim (cases_eq s r.section) [ inr other ↦ gone_other t fine s other over | inl is ↦ here t s is ]
 
         over_stopped : IsGoing g gives seal dev (stopped k) c
         over_stopped = record {
@@ -206,7 +216,7 @@ module _ {F S D V C : Type 0} {gs : _} (g : buffer.Ghosts (PageBlob S gs)) (give
 
         -- a section that owes no replay is whole frames where the disk is told
         pub ended_unowed : r.position < q.position → k.journal.unrecovered r.section ≡ false → (x : codec.Error) → GivesError g gives seal dev spelling accepted refusal config w (stopped k) a c (Codec x)
-        ended_unowed long free x = error_passed w k a c r.section run_k way_k did.left not_ahead_k going_k over_stopped (Codec x)
+        ended_unowed long free x = error_passed w k a c r.section run_k way_k did.left not_ahead_k near_w going_k over_stopped (Codec x)
             (λ t p is. absurd (cc is)) (λ t y is. not_told t) (λ n is. absurd (cc is)) (λ y is. absurd (cc is)) (inr (inr (inr (inl (x, refl)))))
           where
             not_told : dev.Tells → ⊥
@@ -227,7 +237,7 @@ module _ {F S D V C : Type 0} {gs : _} (g : buffer.Ghosts (PageBlob S gs)) (give
 
         -- the start stands behind the whole frames only where it stands behind all bytes
         pub ended_start : (first_offset : ℕ) → first_offset ≡ first_of k r.section → r.position < first_offset → GivesError g gives seal dev spelling accepted refusal config w (stopped k) a c (ItemOutOfRange first_offset)
-        ended_start first_offset is less = error_passed w k a c r.section run_k way_k did.left not_ahead_k going_k over_stopped (ItemOutOfRange first_offset)
+        ended_start first_offset is less = error_passed w k a c r.section run_k way_k did.left not_ahead_k near_w going_k over_stopped (ItemOutOfRange first_offset)
             (λ t p same. (let p_is : first_offset ≡ p = cc same in (sym p_is ∙ at_start, subst (λ (n : ℕ). length (given_bytes seal w d w.start_section) < n) p_is (short t), subst (λ (s : ℕ). IsAhead w s ⊎ IsIn w s) here near_w, here)))
             (λ t y same. cc same) (λ n same. cc same) (λ y same. cc same) (inl (ap ItemOutOfRange at_start))
           where
@@ -320,6 +330,8 @@ module _ {F S D V C : Type 0} {gs : _} (g : buffer.Ghosts (PageBlob S gs)) (give
                     (λ fine s other over. gone_other t fine s other over);
               };
               passed = passed_cut g gives seal dev w k n a c z r.section r.position run_k going_k did.steps.over did.left not_ahead_k near_w held_k.0 held_k.1 owed bytes_of_k given_here whole_at short_here within_k free_w (Ok tt) cut cut.over.over.opened_list refl;
+              whole = λ t s near far. subst (λ (y : ℕ). rest_of (given_bytes seal n (disk (dev.time z)) y) ≡ []) (sym (own_k s near (λ ahead. far (inl (subst (λ (o : Option ℕ). IsSomeAnd o (λ x. x ≤ s)) (sym cut.rest.next) ahead)))))
+                  (whole_cut g gives seal dev w k n a c z r.section r.position run_k going_k did.steps.over did.left not_ahead_k near_w held_k.0 held_k.1 owed bytes_of_k given_here whole_at short_here within_k free_w (Ok tt) cut cut.over.over.opened_list refl t);
               nearer = (let same : way_of n ≡ way_of k = (λ i. sections_ahead (cut.rest.next i) * (word + 1) + bytes_ahead (cut.rest.place i)) in omega (arith, same, way_k));
             }
 
@@ -342,6 +354,7 @@ module _ {F S D V C : Type 0} {gs : _} (g : buffer.Ghosts (PageBlob S gs)) (give
               says = λ t. record {
                 stops = inl cut.ended;
                 ends = λ is. (cutting t, failed_cut t);
+                cut = λ s u held owes changed unsettled. cut.ended;
                 start = λ p is. absurd (not_failed t (λ f. no_start f p is));
                 refused = λ y is. absurd (not_failed t (λ f. no_codec f y is));
                 damaged = λ y is. cut.damage t (y, ap Err is);

@@ -1,12 +1,12 @@
 -- What the calls of a replay of frames gave is all that was to be given, once none is left; and the journal is whole
 -- frames then.
-use Rattle.std.specs.Prelude.{◌≡◌, ◌⊎◌, ℕ, ◌+◌, ◌<◌, ◌≤◌, Bool, true, false, List, [], ◌∷◌, ◌++◌, length, Option, Some, None, IsTrue}
+use Rattle.std.specs.Prelude.{◌≡◌, ◌⊎◌, ℕ, ◌/◌, ◌<◌, ◌≤◌, Bool, true, false, List, [], ◌∷◌, ◌++◌, length, Option, Some, None, IsTrue}
 use Rattle.std.specs.List.{Contains}
 use Rattle.std.proofs.Common.{inl, inr, refl, sym, ◌∙◌, ap, subst, arith}
 use Rattle.std.proofs.lemmas.Bool.{cases_lt, cases_order}
 use Rattle.std.proofs.lemmas.List.{append-nil}
 use Rattle.std.proofs.lemmas.List.Elements.{Contains-append_left, Contains-append_right, Contains-push, Contains-push_cases}
-use Rattle.blob_device.specs.Disk.{Disk}
+use Rattle.blob_device.specs.Disk.{Blob, Disk}
 use Rattle.sealed_pages.specs.Buffer.{bytes_of}
 use Rattle.sealed_pages.specs.SealedPrefix.{sealed_prefix}
 use Rattle.sealed_pages.specs.Shown.{shown}
@@ -18,10 +18,10 @@ use Rattle.segments.specs.FixedReplay.{Walk, Place, IsGoneOver, IsDrained, HasWa
 use Rattle.sealed_pages.specs.lemmas.cutting.Truncating.{all_flushed}
 use Rattle.segments.specs.lemmas.replay.Kept.{sealed_flushed}
 use Rattle.variable_journal.specs.lemmas.Frame.{rest_none}
-use Rattle.variable_journal.specs.Finishing.{AreAllItems, AreInOrder, GivesNext, HasCalled, Moment, NextCall, given, given_by}
+use Rattle.variable_journal.specs.Finishing.{AreAllItems, AreInOrder, GivesNext, HasCalled, IsAsLeft, Moment, NextCall, given, given_by}
 use Rattle.variable_journal.specs.Frames.{rest_of}
 use Rattle.variable_journal.specs.Reading.{Spells}
-use Rattle.variable_journal.specs.Replaying.{AreWalked, GivenItem, IsItemLeft}
+use Rattle.variable_journal.specs.Replaying.{AreWalked, GivenItem, IsItemAt, IsItemLeft, given_bytes}
 use Rattle.blob_device.proofs.general.Options.{none_in, some_there}
 
 -- nothing is left of a replay that is drained, or has ended
@@ -40,6 +40,24 @@ order_push (z ∷ xs) x ascend behind = (
   λ y has. elim (Contains-push_cases xs x y has) [ inl before ↦ ascend.0 y before | inr is ↦ subst (λ (w : GivenItem _). StandsBefore z.0 z.1 w.0 w.1) is (behind z (Contains-append_left (z ∷ []) xs z (Contains-push [] z))) ],
   order_push xs x ascend.1 (λ y has. behind y (Contains-append_right (z ∷ []) xs y has)),
 )
+
+-- what is left hangs on the blobs of the replay's sections alone
+left_over : {F S : Type 0} {gs : _} (seal : List ℕ → ℕ) (w : Walk F (PageBlob S gs)) (d e : Disk) → ((s : ℕ) → d (key_of w.journal.sections s) ≡ e (key_of w.journal.sections s))
+    → (s o : ℕ) (i : List ℕ) → IsItemLeft seal w d s o i → IsItemLeft seal w e s o i
+left_over seal w d e same s o i l = (
+    let bytes : given_bytes seal w d s ≡ given_bytes seal w e s = ap (λ (b : Blob). kept_of seal (w.journal.unrecovered s) (w.journal.sections.held s) b.content) (same s) in
+    let byte = l.byte in
+    record {
+      byte = record { goes_on = byte.goes_on; begun = byte.begun; whole = subst (λ (y : List ℕ). o < length y / 1) bytes byte.whole; ahead = byte.ahead };
+      whole = subst (λ (y : List ℕ). IsItemAt y o i) bytes l.whole;
+    })
+
+module _ {F S : Type 0} {gs : _} (seal : List ℕ → ℕ) (a b : Moment F (PageBlob S gs)) (is : IsAsLeft a b) where
+  left_as : (s o : ℕ) (i : List ℕ) → IsItemLeft seal a.walk a.disk s o i → IsItemLeft seal b.walk b.disk s o i
+  left_as s o i l = left_over seal b.walk a.disk b.disk is.blobs s o i (subst (λ (w : Walk F (PageBlob S gs)). IsItemLeft seal w a.disk s o i) is.walk l)
+
+  left_back : (s o : ℕ) (i : List ℕ) → IsItemLeft seal b.walk b.disk s o i → IsItemLeft seal a.walk a.disk s o i
+  left_back s o i l = subst (λ (w : Walk F (PageBlob S gs)). IsItemLeft seal w a.disk s o i) (sym is.walk) (left_over seal b.walk b.disk a.disk (λ q. sym (is.blobs q)) s o i l)
 
 module _ {F S V C : Type 0} {gs : _} (seal : List ℕ → ℕ) (spelling : V → List ℕ) (accepted : V → C → Type 0) (config : C) (from : Moment F (PageBlob S gs)) where
   -- What holds behind some calls, which gave xs.
@@ -104,9 +122,19 @@ module _ {F S V C : Type 0} {gs : _} (seal : List ℕ → ℕ) (spelling : V →
   come_on calls c come gave (Some x) some = subst (λ (xs : List (GivenItem V)). HasCome xs c.new) (sym (ap (λ (o : Option (GivenItem V)). given calls ++ given_by o) some))
       (come_item (given calls) c come x (subst (GivesNext seal spelling accepted config c.old c.new) some gave))
 
+  -- also where the caller wrote elsewhere since
+  come_as : (xs : List (GivenItem V)) (now b : Moment F (PageBlob S gs)) → IsAsLeft now b → HasCome xs b → HasCome xs now
+  come_as xs now b is come = record {
+    ascending = come.ascending;
+    items = come.items;
+    all = λ s o i l. elim (come.all s o i l) [ inl has ↦ inl has | inr here ↦ inr (left_back seal now b is s o i here) ];
+    left = λ s o i l. come.left s o i (left_as seal now b is s o i l);
+    behind = λ s o i l. come.behind s o i (left_as seal now b is s o i l);
+  }
+
   pub has_come : (calls : List (NextCall F (PageBlob S gs) V)) (now : Moment F (PageBlob S gs)) → HasCalled seal spelling accepted config from calls now → HasCome (given calls) now
-  has_come [] now run = subst (λ (a : Moment F (PageBlob S gs)). HasCome [] a) (sym run) come_start
-  has_come (c ∷ calls) now run = subst (λ (a : Moment F (PageBlob S gs)). HasCome (given (c ∷ calls)) a) (sym run.0) (come_on calls c (has_come calls c.old run.2) run.1 c.gave refl)
+  has_come [] now run = come_as [] now from run come_start
+  has_come (c ∷ calls) now run = come_as (given (c ∷ calls)) now c.new run.0 (come_on calls c (has_come calls c.old run.2) run.1 c.gave refl)
 
   -- once nothing is left, it was all
   pub all_items : (calls : List (NextCall F (PageBlob S gs) V)) (now : Moment F (PageBlob S gs)) → HasCalled seal spelling accepted config from calls now → IsDrained now.walk

@@ -1,15 +1,13 @@
 -- What stands at the place of a replay, as the code comes to it: a length, one that is cut short, or none.
 use Rattle.std.specs.Prelude.{◌≡◌, ℕ, ◌^◌, ◌<◌, ◌≤◌, Bool, true, List, [], ◌++◌, length, take, drop, Option, Some, None, IsSome, IsSomeAnd, MatchOption, Result, Ok, Err}
 use Rattle.std.specs.Option.{option_map}
-use Rattle.std.proofs.Common.{inl, inr, refl, sym, ap, ◌∙◌, subst, arith, append_assoc, length-drop, length-take, take-append-drop}
-use Rattle.std.proofs.Math.Seq.{take-append_seam}
+use Rattle.std.proofs.Common.{inl, inr, refl, sym, ap, ◌∙◌, subst, arith, length-drop, length-take, take-append-drop}
 use Rattle.std.proofs.lemmas.List.{drop_all}
 use Rattle.blob_device.specs.Timeline.{disk}
 use Rattle.blob_device.specs.declared.device.Device as device
 use Rattle.value_codec.specs.declared.codec.Error as codec
 use Rattle.value_codec.specs.declared.codec.Error.TheVariants.{InvalidVarint}
-use Rattle.value_codec.specs.Varint.{varint, BeginsWithVarint, IsVarint}
-use Rattle.value_codec.specs.lemmas.Varint.{varint_spells}
+use Rattle.value_codec.specs.Varint.{BeginsWithVarint}
 use Rattle.sealed_pages.specs.Readers.{Reader}
 use Rattle.sealed_pages.specs.declared.page_blob.PageBlob.{PageBlob}
 use Rattle.section_manager.specs.Setting.{Setting}
@@ -19,13 +17,14 @@ use Rattle.section_manager.specs.declared.journal.Error.TheVariants.{Codec}
 use Rattle.segments.specs.FixedBounds.{whole_of}
 use Rattle.segments.specs.FixedCursor.{Fills, kept_at}
 use Rattle.segments.specs.FixedReplay.{Walk, Place}
-use Rattle.variable_journal.specs.Frames.{rest_of, whole_end, BeginsWithNoFrame, HasBadLength}
+use Rattle.variable_journal.specs.Frames.{rest_of, whole_end, HasBadLength}
 use Rattle.variable_journal.specs.Reading.{IsPastLast}
 use Rattle.variable_journal.specs.Replaying.{GivenItem, IsBoundary, IsItemAt, IsItemLeft, given_bytes}
 use Rattle.variable_journal.specs.Advancing.{GivesError, IsGoing}
 use Rattle.variable_journal.specs.Turning.{BytesGo, FindsHeader, HasLooked, IsAt, IsAtFrame, IsAtTorn, IsFurther, IsSmall, IsUnder, Looks, MayLook, Says, TurnEnds, stopped}
 use Rattle.variable_journal.specs.declared.journal.replaying.Header.{Header}
 use Rattle.variable_journal.specs.declared.journal.replaying.Header.TheVariants.{Length, Cut, Bad}
+use Rattle.variable_journal.proofs.LengthLemmas.{none_of_bad}
 use Rattle.variable_journal.proofs.LookingLemmas.{and_at, at_some, hand_filled, looks_err, looks_filled, looks_ok, match_at, still_filled, there_filled, whole_bytes}
 use Rattle.variable_journal.proofs.OffsetLemmas.{item_before_end, last_boundary, rest_behind}
 use Rattle.variable_journal.proofs.SteppingLemmas.{walk_left}
@@ -45,13 +44,6 @@ told_offset (Some x) = x.1
 pub place_told : (o : Option Place) (p : Option (ℕ × ℕ)) (s q : ℕ) → p ≡ option_map (λ (r : Place). (r.section, r.position)) o → p ≡ Some (s, q) → IsSomeAnd o (λ r. (r.section ≡ s) × (r.position ≡ q))
 place_told None p s q is some = absurd (cc (is, some))
 place_told (Some r) p s q is some = (ap told_section (sym is ∙ some), ap told_offset (sym is ∙ some))
-
--- no frame begins where bytes say no length
-none_of_bad : (bytes : List ℕ) → HasBadLength bytes → BeginsWithNoFrame bytes
-none_of_bad bytes bad item rest there =
-    let v = varint (length item) in
-    let stands : bytes ≡ v ++ (item ++ rest) = there.is ∙ append_assoc v item rest in
-    bad.none (length item) (length v) there.fits (subst (λ (z : List ℕ). IsVarint z (length item)) (sym (ap (take (length v)) stands ∙ take-append_seam v (item ++ rest))) (varint_spells (length item)))
 
 module _ (bytes : List ℕ) (o : ℕ) (at : IsBoundary bytes o) (bad : HasBadLength (drop o bytes)) where
   last : o ≡ whole_end bytes

@@ -6,8 +6,9 @@ use Rattle.value_codec.specs.declared.codec.Error as codec
 use Rattle.value_codec.specs.declared.codec.Error.TheVariants.{InvalidVarint}
 use Rattle.value_codec.specs.lemmas.Varint.{varint_apart, varint_only}
 use Rattle.variable_journal.specs.lemmas.Frame.{none_extends, varint_some}
+use Rattle.variable_journal.specs.lemmas.Reach.{frame_begins}
 use Rattle.section_manager.specs.Raised.{raised_codec}
-use Rattle.variable_journal.specs.Frames.{frame, BeginsWithFrame, HasBadLength}
+use Rattle.variable_journal.specs.Frames.{frame, BeginsWithFrame, BeginsWithNoFrame, HasBadLength}
 use Rattle.variable_journal.specs.Reading.{IsPastLast, Measures}
 use Rattle.variable_journal.proofs.FrameLemmas.{bad_of, not_bad}
 
@@ -49,6 +50,10 @@ past_of_long bytes n len begins long = record {
   none = λ item rest there. absurd (let is = header_only bytes n len item rest begins there in omega (arith, is.1, long));
   unread = λ bad. not_bad bytes n len begins bad;
 }
+
+-- no frame begins where bytes say no length
+pub none_of_bad : (bytes : List ℕ) → HasBadLength bytes → BeginsWithNoFrame bytes
+none_of_bad bytes bad item rest there = not_bad bytes (length item) (length (varint (length item))) (frame_begins bytes item rest there) bad
 
 -- no bytes
 pub past_of_none : (bytes : List ℕ) → bytes ≡ [] → IsPastLast bytes

@@ -7,6 +7,7 @@ pub mod ReadingLemmas
 pub mod OpeningLemmas
 pub mod GettingLemmas
 pub mod LookingLemmas
+pub mod LeavingLemmas
 pub mod SteppingLemmas
 pub mod TurningLemmas
 pub mod EnteringLemmas
@@ -18,9 +19,11 @@ pub mod BeginningLemmas
 pub mod TornLemmas
 pub mod TakenLemmas
 pub mod HeaderLemmas
+pub mod NextLemmas
 pub mod DrainLemmas
 pub mod BoundLemmas
 pub mod OpenedLemmas
 pub mod AtMostLemmas
 pub mod ManyLemmas
 pub mod TryingLemmas
+pub mod LastingLemmas

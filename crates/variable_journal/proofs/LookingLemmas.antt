@@ -1,11 +1,10 @@
 -- Looking at bytes of a section: one look after another, and what is passed over. Nothing is written.
-use Rattle.std.specs.Prelude.{◌≡◌, ◌⊎◌, ℕ, ◌+◌, ◌*◌, ◌<◌, ◌≤◌, Bool, true, false, List, [], length, take, drop, Option, Some, None, IsSome, IsSomeAnd, MatchOption, Result, Ok, Err, OnOk, OnErr}
+use Rattle.std.specs.Prelude.{◌≡◌, ◌⊎◌, ℕ, ◌+◌, ◌*◌, ◌<◌, ◌≤◌, Bool, true, false, List, [], length, take, drop, Option, Some, None, IsSome, IsSomeAnd, MatchOption, Result, Ok, Err, IfOk, OnOk, OnErr}
 use Rattle.std.specs.Option.{option_map}
-use Rattle.std.specs.Result.{IsErrOf}
 use Rattle.std.proofs.Common.{inl, inr, refl, sym, ap, ◌∙◌, subst, arith}
 use Rattle.std.proofs.lemmas.List.{take_all}
-use Rattle.blob_device.specs.Disk.{Key, Blob, Disk}
-use Rattle.blob_device.specs.Timeline.{disk, Always}
+use Rattle.blob_device.specs.Disk.{Blob}
+use Rattle.blob_device.specs.Timeline.{disk}
 use Rattle.blob_device.specs.declared.device.Device as device
 use Rattle.blob_device.specs.declared.runtime.RError.TheVariants.{InvalidChecksum}
 use Rattle.blob_device.specs.lemmas.Moments.{always_now, always_then, always_weaker}
@@ -28,14 +27,18 @@ use Rattle.segments.specs.FixedBounds.{whole_of}
 use Rattle.segments.specs.FixedCursor.{Fills, IsFilled, Turns, after_items, kept_at, leaving, passing}
 use Rattle.segments.specs.FixedReplay.{Walk, Place, HasWalk, IsWalk, StandsIn, kept_bytes, kept_of}
 use Rattle.segments.specs.FixedStepping.{bytes_ahead, failing, sections_ahead, standing, way_of, word}
-use Rattle.variable_journal.specs.Turning.{BytesGo, HasLooked, HasSkipped, IsFurther, Looks, stopped}
-use Rattle.blob_device.proofs.general.Options.{some_of}
+use Rattle.variable_journal.specs.Turning.{BytesGo, HasLooked, HasSkipped, IsFurther, Looks, MayLook, stopped}
 use Rattle.blob_device.proofs.general.Results.{on_err, on_ok}
 
 -- what holds of the value that is there
 pub at_some : {A : Type 0} (o : Option A) (P : A → Type 0) → IsSomeAnd o P → (v : A) × (o ≡ Some v) × P v
 at_some None P has = absurd has
 at_some (Some v) P has = (v, refl, has)
+
+-- what holds of each value that is there holds, where one is
+pub of_some : {A P : Type 0} (o : Option A) → IsSome o → ((v : A) → o ≡ Some v → P) → P
+of_some None has f = absurd (cc has)
+of_some (Some v) has f = f v refl
 
 pub some_and : {A : Type 0} (o : Option A) (P : A → Type 0) (v : A) → o ≡ Some v → P v → IsSomeAnd o P
 some_and {A = A} o P v is has = subst (λ (x : Option A). IsSomeAnd x P) (sym is) has
@@ -346,6 +349,55 @@ module _ {F S D : Type 0} {gs : _} (g : buffer.Ghosts (PageBlob S gs)) (gives : 
         still_filled m k q.0 a b c one q.1 still_q free (count + 1) (Ok true) (fill q.0 q.1),
         hand_filled m k q.0 a b c one q.1 still_q free (count + 1) (Ok true) (fill q.0 q.1) refl,
       )
+
+    -- five bytes were asked for at once
+    module _ (m : Walk F (PageBlob S gs)) (a b : D) (over : BytesGo g gives seal dev w a) (free : (s : ℕ) → w.journal.floor_of s ≡ 0) where
+      start : Looks g gives seal dev r w w a a {T = Unit {0}} (Ok tt)
+      start = looks_start tt a over
+
+      here : IsSomeAnd w.place (λ q. q.position ≡ r.position)
+      here = some_and w.place (λ (q : Place). q.position ≡ r.position) r at refl
+
+      pub five_err : (e : Error) → ((x : Place) → w.place ≡ Some x → Fills seal 1 g gives dev 5 x (Err e) w m a b) → HasLooked g gives seal dev r w m a b (Err e)
+      five_err e fill = looked_err w m a a b start here free 4 e fill
+
+      -- they are at hand
+      pub five_hand : ((x : Place) → w.place ≡ Some x → Fills seal 1 g gives dev 5 x (Ok true) w m a b) → HasLooked g gives seal dev r w m a b (Ok 5)
+      five_hand fill = (let more = looked_more w m a a b start here free 4 fill in record {
+        looks = looks_ok r w m a b tt 5 more.0;
+        still = more.1;
+        hand = (omega arith, more.2);
+        all = λ t less. absurd (omega (arith, less));
+      })
+
+      -- fewer are kept: it is looked how many
+      module _ (fill : (x : Place) → w.place ≡ Some x → Fills seal 1 g gives dev 5 x (Ok false) w m a b) where
+        one : Looks g gives seal dev r w m a b (Ok false)
+        one = looks_fill w r m a b 5 (Ok false) free (fill r at)
+
+        five : (x : Place) × (m.place ≡ Some x) × IsFilled w m r x
+        five = at_some m.place (IsFilled w m r) (fill r at).rest
+
+        pub may_on : MayLook g gives seal dev m b
+        may_on = record {
+          over = (fill r at).over;
+          free = λ s. ap (λ (x : Walk F (PageBlob S gs)). x.journal.floor_of s) five.2.goes ∙ free s;
+          stands = subst IsSome (sym five.1) refl;
+        }
+
+        pub looked_on : (k : Walk F (PageBlob S gs)) (c : D) (result : Result ℕ Error) → ((x : Place) → m.place ≡ Some x → HasLooked g gives seal dev x m k b c result) → HasLooked g gives seal dev r w k a c result
+        looked_on k c result more = (let last = more five.0 five.1 in record {
+          looks = looks_then m k five.0 a b c false result one five.1 last.looks;
+          still = on_ok result (some_map k.place (λ p. p.position ≡ five.0.position) (λ p. p.position ≡ r.position) (λ p is. is ∙ five.2.position)) last.still;
+          hand = last.hand;
+          all = λ t. as_before t result (last.all t);
+        })
+          where
+            as_before : dev.Tells → (y : Result ℕ Error) → IfOk y (λ n. n < 5 → length (kept_at seal 1 m five.0 (disk (dev.time b))) ≤ five.0.position + n) → IfOk y (λ n. n < 5 → length (kept_at seal 1 w r (disk (dev.time a))) ≤ r.position + n)
+            as_before t (Err e) has = tt
+            as_before t (Ok n) has = (
+                let same : kept_at seal 1 m five.0 (disk (dev.time b)) ≡ kept_at seal 1 w r (disk (dev.time a)) = (λ i. kept_bytes seal 1 (five.2.goes i) (disk_same a b (one.unchanged t) i) (five.2.section i)) in
+                λ less. (let le = has less in omega (arith, le, ap length same, five.2.position)))
 
     -- what is left is passed over, a round at a time
     module _ (m k : Walk F (PageBlob S gs)) (a b c : D) (one : Looks g gives seal dev r w m a b {T = Unit {0}} (Ok tt)) (free : (s : ℕ) → w.journal.floor_of s ≡ 0) where

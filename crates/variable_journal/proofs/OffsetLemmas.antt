@@ -1,12 +1,12 @@
 -- Where items stand in a list of frames: at boundaries, in order.
-use Rattle.std.proofs.Common.{◌≡◌, ◌∙◌, ◌⊎◌, inl, inr, ℕ, ◌+◌, ◌-◌, ◌^◌, ◌<◌, ◌≤◌, List, [], ◌∷◌, ◌++◌, length, drop, refl, sym, ap, subst, arith, append_assoc, length-append, length-drop, take-append-drop}
+use Rattle.std.proofs.Common.{◌≡◌, ◌∙◌, ◌⊎◌, inl, inr, ℕ, ◌+◌, ◌^◌, ◌<◌, ◌≤◌, List, [], ◌∷◌, ◌++◌, length, drop, refl, sym, ap, subst, arith, append_assoc, length-append}
 use Rattle.std.proofs.Math.Seq.{drop-append_seam}
 use Rattle.std.proofs.lemmas.List.{append-nil}
 use Rattle.std.specs.List.{AllByRecursion}
 use Rattle.variable_journal.specs.Frames.{frame, frames, items_of, rest_of, whole_end, AreFrames, BeginsWithFrame, BeginsWithNoFrame, HasBadLength}
 use Rattle.variable_journal.specs.Reading.{IsPastLast}
 use Rattle.variable_journal.specs.Replaying.{IsBoundary, IsItemAt}
-use Rattle.variable_journal.specs.lemmas.Frame.{are_frames, frame_some, frames_append, items_are, one_frame}
+use Rattle.variable_journal.specs.lemmas.Frame.{are_frames, frame_some, frames_append, one_frame}
 use Rattle.variable_journal.specs.lemmas.Offset.{whole_is}
 
 -- two places in one list: the same, or one before the other

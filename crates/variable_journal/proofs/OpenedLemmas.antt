@@ -21,7 +21,7 @@ use Rattle.segments.specs.lemmas.replay.Kept.{sealed_flushed}
 use Rattle.segments.specs.lemmas.replay.Reading.{failed_since}
 use Rattle.variable_journal.specs.lemmas.Frame.{bad_before, rest_none}
 use Rattle.variable_journal.specs.lemmas.Offset.{whole_is}
-use Rattle.variable_journal.specs.lemmas.Running.{keeps_on}
+use Rattle.variable_journal.specs.lemmas.Running.{bad_stays, keeps_on, near_or_not}
 use Rattle.section_manager.specs.Refusing.{HasFailed, IsForeign}
 use Rattle.section_manager.specs.Sealed.{is_unsettled}
 use Rattle.section_manager.specs.SealedLaws.{all_settled}
@@ -42,7 +42,7 @@ use Rattle.variable_journal.specs.Lists.{IsJournal}
 use Rattle.variable_journal.specs.OpeningAtMost.{BoundingFrames, IsFirstRefused, IsOpenedTo, IsThere, IsValue, OpensTo, judged_bytes}
 use Rattle.variable_journal.specs.Reading.{Spells}
 use Rattle.variable_journal.specs.Replaying.{IsItemAt, IsItemLeft, KeepsFrames, RefusesItem, ReplayingFrames, given_bytes}
-use Rattle.variable_journal.proofs.BoundLemmas.{begun, bounding_now, given_mid, held_of, later_still, page_of, prefix_mid, there_of}
+use Rattle.variable_journal.proofs.BoundLemmas.{begun, bounding_now, given_mid, held_of, later_still, page_of, prefix_mid, settled_always, there_of}
 use Rattle.variable_journal.proofs.FinishingLemmas.{HasCome, has_come}
 use Rattle.variable_journal.proofs.OffsetLemmas.{item_inside, one_item}
 use Rattle.blob_device.proofs.general.Options.{none_in, some_of, some_there}
@@ -62,7 +62,7 @@ from_start : (b : Bool) (p : ℕ) → cond b 0 0 ≤ p
 from_start true p = omega arith
 from_start false p = omega arith
 
-module _ {S D : Type 0} {gs : _} (seal : List ℕ → ℕ) (P : ℕ) (g : buffer.Ghosts (PageBlob S gs)) (laws : ArePages g seal) (gives : AppendFactory S → Setting) (dev : device.Ghosts D)
+module _ {S D : Type 0} {gs : _} (seal : List ℕ → ℕ) (P : ℕ) (pos : 1 ≤ P) (g : buffer.Ghosts (PageBlob S gs)) (laws : ArePages g seal) (gives : AppendFactory S → Setting) (dev : device.Ghosts D)
     (last end : ℕ) (paged : Pages) (capacity : ℕ) (j : Lists (AppendFactory S) (PageBlob S gs)) (old middle : D)
     (cut : IsOpenedCut seal P 1 j.sections.partition last end g gives dev.Tells paged capacity j (dev.opened middle) (disk (dev.time old)) (disk (dev.time middle))) (sized : (gives j.sections.factory).page_size ≡ P)
     (first : dev.Tells → Always (dev.time old) (dev.time middle) (BoundingFrames seal P j.sections.partition last end (disk (dev.time old)))) where
@@ -199,6 +199,7 @@ module _ {S D : Type 0} {gs : _} (seal : List ℕ → ℕ) (P : ℕ) (g : buffer
                 there = (there_is t r.section held).0;
                 under = (there_is t r.section held).1;
                 before = earlier held;
+                lengths = no_length held;
                 why = inl (
                   item.0,
                   item.1,
@@ -216,6 +217,7 @@ module _ {S D : Type 0} {gs : _} (seal : List ℕ → ℕ) (P : ℕ) (g : buffer
                 there = (there_is t r.section was.0).0;
                 under = (there_is t r.section was.0).1;
                 before = earlier was.0;
+                lengths = no_length was.0;
                 why = inr (
                   bad.0,
                   (λ q i at_q. elim (value_or_left t r.section q i (left_of t r.section q i was.0 at_q)) [
@@ -236,6 +238,20 @@ module _ {S D : Type 0} {gs : _} (seal : List ℕ → ℕ) (P : ℕ) (g : buffer
                 | inr left ↦ absurd (r.ends.first s o i left less)
               ]
 
+          no_length : IsHeld j.sections r.section → (s : ℕ) → IsThere seal P j.sections.partition last end from s → s < r.section → HasBadLength (rest_of (kept s)) → ⊥
+          no_length held s there less bad =
+              let here = held_is t s there (omega (arith, less, (there_is t r.section held).1)) in
+              let was = subst (λ (l : List ℕ). HasBadLength (rest_of l)) (sym (given_is t s here)) bad in
+              let now = subst (λ (l : List ℕ). HasBadLength (rest_of l)) (sym (bad_stays g gives seal dev (begun j) x n middle at new come.gone come.going t s was)) was in
+              elim (near_or_not x s) [
+                | inl near ↦ r.lengths s near less now
+                | inr far ↦ never_bad (given_bytes seal x to s) ((come.over.walked t).gone_over come.gone.goes.failed s (record {
+                  begun = omega (arith, keeps.same.section);
+                  not_ahead = λ ahead. far (inl ahead);
+                  not_in = λ inside. far (inr inside);
+                })) now
+              ]
+
       own_error : {T : Type 0} (y : Error) → IsErrOf {T = T} (Err e) y → e ≡ y
       own_error y is = cc is
 
@@ -246,6 +262,7 @@ module _ {S D : Type 0} {gs : _} (seal : List ℕ → ℕ) (P : ℕ) (g : buffer
       stopped_opens place same kept_config config_is never entries faults =
           subst (λ (p : List ℕ). OpensTo seal P p last end spelling accepted config refusal g gives paged capacity dev (Err e) kept_config old new) same (record {
             moments = moments_to n new keeps_error;
+            settled = λ t. settled_always seal P pos j.sections.partition last end (dev.time old) (dev.time new) (moments_to n new keeps_error t);
             ends = tt;
             same_config = config_is;
             names = record {
@@ -394,6 +411,7 @@ module _ {S D : Type 0} {gs : _} (seal : List ℕ → ℕ) (P : ℕ) (g : buffer
       drained_opens place same never entries faults =
           subst (λ (p : List ℕ). OpensTo seal P p last end spelling accepted config refusal g gives paged capacity dev (Ok k) kept_config old at) same (record {
             moments = moments_to x at keeps;
+            settled = λ t. settled_always seal P pos j.sections.partition last end (dev.time old) (dev.time at) (moments_to x at keeps t);
             ends = opened_to;
             same_config = finished.same_config;
             names = record {

@@ -1,5 +1,5 @@
 -- The second cut of a section, to its whole frames.
-use Rattle.std.specs.Prelude.{◌≡◌, ◌≢◌, ◌⊎◌, ◌↔◌, ℕ, ◌+◌, ◌*◌, ◌/◌, ◌^◌, cond, eqb, ◌<◌, ◌≤◌, Bool, false, true, List, [], length, take, drop, Option, Some, None, Result, Ok, Err, OnOk, OnErr, IsTrue, IsSome, IsSomeAnd}
+use Rattle.std.specs.Prelude.{◌≡◌, ◌≢◌, ◌⊎◌, ◌↔◌, ℕ, ◌/◌, ◌^◌, cond, eqb, ◌<◌, ◌≤◌, Bool, false, true, List, [], length, take, Option, Some, None, Result, Ok, Err, OnOk, OnErr, IsTrue, IsSome, IsSomeAnd}
 use Rattle.std.proofs.Common.{inl, inr, refl, sym, ap, ◌∙◌, subst, arith}
 use Rattle.std.proofs.lemmas.Bool.{cases_eq}
 use Rattle.blob_device.specs.Disk.{Key, Blob, Disk}
@@ -9,7 +9,6 @@ use Rattle.blob_device.specs.lemmas.Moments.{always_now, always_then, always_wea
 use Rattle.blob_device.specs.lemmas.Puts.{same_or_other}
 use Rattle.sealed_pages.specs.Buffer.{bytes_of, IsSealed}
 use Rattle.sealed_pages.specs.ChanceSeal.{Leaves}
-use Rattle.sealed_pages.specs.Cutting.{StandsSettled}
 use Rattle.sealed_pages.specs.SealedPrefix.{sealed_prefix}
 use Rattle.sealed_pages.specs.Shown.{shown}
 use Rattle.sealed_pages.specs.Unrecovered.{IsUnrecovered}
@@ -23,17 +22,17 @@ use Rattle.segments.specs.FixedCursor.{Shortens}
 use Rattle.segments.specs.FixedLists.{bytes_held, section_bytes, section_size, size_held}
 use Rattle.segments.specs.FixedReplay as bytes
 use Rattle.segments.specs.FixedReplay.{Walk, Place, IsAhead, IsIn, IsGoneOver, IsSameOrCut, KeepsSections, SameWalk, StaysStill, first_of, kept_of}
-use Rattle.segments.specs.FixedStepping.{failing, way_of, GoesOn, IsCutBack}
+use Rattle.segments.specs.FixedStepping.{IsCutBack}
 use Rattle.segments.specs.lemmas.FixedOwed.{cut_then, same_or_cut}
-use Rattle.segments.specs.lemmas.replay.Walks.{MayCut, MayFlush, MayPrefix, same_bytes}
+use Rattle.segments.specs.lemmas.replay.Walks.{MayCut, MayFlush, MayPrefix}
 use Rattle.variable_journal.specs.lemmas.Frame.{rest_none}
 use Rattle.variable_journal.specs.lemmas.Offset.{cut_whole}
 use Rattle.variable_journal.specs.lemmas.Running.{frames_cut, frames_same, frames_then}
-use Rattle.variable_journal.specs.Frames.{items_of, rest_of, whole_end, HasBadLength}
+use Rattle.variable_journal.specs.Frames.{rest_of, whole_end, HasBadLength}
 use Rattle.variable_journal.specs.Lists.{AreFramed}
-use Rattle.variable_journal.specs.Replaying.{AreWalked, IsBoundary, IsCutToFrames, IsItemAt, IsItemLeft, IsStart, KeepsFrames, ReplayingFrames, given_bytes}
-use Rattle.variable_journal.specs.Advancing.{HasPassed, IsKept, IsSameLeft, Keeps, LeavesLess}
-use Rattle.variable_journal.specs.Turning.{BytesGo, stopped}
+use Rattle.variable_journal.specs.Replaying.{AreWalked, IsBoundary, IsItemAt, IsItemLeft, IsStart, KeepsFrames, ReplayingFrames, given_bytes}
+use Rattle.variable_journal.specs.Advancing.{HasPassed, Keeps, LeavesLess}
+use Rattle.variable_journal.specs.Turning.{BytesGo}
 use Rattle.blob_device.proofs.general.Options.{none_in, same_some, some_of, some_there}
 
 -- a replay of bytes may leave as much of a blob that no call has touched
@@ -198,6 +197,12 @@ module _ {F S D : Type 0} {gs : _} (g : buffer.Ghosts (PageBlob S gs)) (gives : 
     was_held : (s : ℕ) → s ≢ s0 → IsHeld n.journal.sections s → IsHeld k.journal.sections s
     was_held s other held = subst IsSome (cut.touches.others s other).held held
 
+    -- what had been gone over is as it was
+    behind_cut : dev.Tells → (s : ℕ) → IsHeld w.journal.sections s → IsHeld n.journal.sections s → (IsAhead w s ⊎ IsIn w s → ⊥) → given_bytes seal n f s ≡ given_bytes seal w d s
+    behind_cut t s before after far =
+        let other : s ≢ s0 = λ is. far (subst (λ (y : ℕ). IsAhead w y ⊎ IsIn w y) (sym is) near) in
+        given_other t s other ∙ (kept.on_disk t).behind s before (was_held s other after) far
+
     -- another section that owes no replay is whole frames still
     pub framed_other : dev.Tells → AreFramed k.journal e → (s : ℕ) → n.journal.unrecovered s ≡ false → rest_of (section_bytes n.journal.sections f s) ≡ []
     framed_other t framed s free = (
@@ -259,6 +264,7 @@ module _ {F S D : Type 0} {gs : _} (g : buffer.Ghosts (PageBlob S gs)) (gives : 
             bytes = λ y. ap (λ (b : Blob). bytes_of (shown v) b.content) (ap f (sym (key_k s)) ∙ sym (ap f (key_n s)) ∙ was.1 t ∙ ap e (key_k s)) ∙ first.bytes y;
           });
           items = λ going_n s u held owed. absurd (cc (ended, going_n));
+          behind = behind_cut t;
         };
         moments = moments_cut;
         entries = entries_cut;
@@ -337,6 +343,7 @@ module _ {F S D : Type 0} {gs : _} (g : buffer.Ghosts (PageBlob S gs)) (gives : 
                 bytes = λ y. ap (λ (b : Blob). bytes_of (shown v) b.content) (ap f (sym (key_k s)) ∙ sym (ap f (key_n s)) ∙ blob_other t s other (some_there (k.journal.sections.held s) v was) ∙ ap e (key_k s)) ∙ first.bytes y;
               });
           items = λ still s u held owed. items_cut t s u held owed;
+          behind = behind_cut t;
         };
         moments = moments_cut;
         entries = entries_cut;
@@ -448,6 +455,17 @@ module _ {F S D : Type 0} {gs : _} (g : buffer.Ghosts (PageBlob S gs)) (gives : 
         });
       }
 
+      given_cut : (t : dev.Tells) → given_bytes seal n f s0 ≡ take (whole_end (sealed_prefix seal u0.page_size (e K).content)) (sealed_prefix seal u0.page_size (e K).content)
+      given_cut t =
+          (λ i. kept_of seal (cut.rest.unrecovered s0 i) (v0.1 i) (f (key_n s0 i)).content)
+          ∙ (λ i. kept_of seal (owes0 i) (Some v0.0) (f K).content)
+          ∙ ap (λ (P : ℕ). sealed_prefix seal P (f K).content) did.page_size
+          ∙ sealed_cut t
+
+      -- which is whole frames then
+      pub whole_cut : dev.Tells → rest_of (given_bytes seal n f s0) ≡ []
+      whole_cut t = ap rest_of (given_cut t) ∙ (cut_whole (sealed_prefix seal u0.page_size (e K).content)).1
+
       -- all sections that it has gone over are whole frames
       pub walked_cut : dev.Tells
           → (IsAhead k k.start_section ⊎ IsIn k k.start_section → IsHeld k.journal.sections k.start_section → IsStart seal k.journal e k.start_section k.start_position)
@@ -465,17 +483,10 @@ module _ {F S D : Type 0} {gs : _} (g : buffer.Ghosts (PageBlob S gs)) (gives : 
         framed = framed_other t framed;
         gone_over = λ fine s over. elim (cases_eq s s0) [
           | inr other ↦ ap rest_of (given_other t s other) ∙ gone (sym cut.rest.failed ∙ fine) s other (over_before s over)
-          | inl at ↦ subst (λ (y : ℕ). rest_of (given_bytes seal n f y) ≡ []) (sym at) (ap rest_of (given_cut t) ∙ (cut_whole (sealed_prefix seal u0.page_size (e K).content)).1)
+          | inl at ↦ subst (λ (y : ℕ). rest_of (given_bytes seal n f y) ≡ []) (sym at) (whole_cut t)
         ];
       }
         where
-          given_cut : (t : dev.Tells) → given_bytes seal n f s0 ≡ take (whole_end (sealed_prefix seal u0.page_size (e K).content)) (sealed_prefix seal u0.page_size (e K).content)
-          given_cut t =
-              (λ i. kept_of seal (cut.rest.unrecovered s0 i) (v0.1 i) (f (key_n s0 i)).content)
-              ∙ (λ i. kept_of seal (owes0 i) (Some v0.0) (f K).content)
-              ∙ ap (λ (P : ℕ). sealed_prefix seal P (f K).content) did.page_size
-              ∙ sealed_cut t
-
           over_before : (s : ℕ) → IsGoneOver n s → IsGoneOver k s
           over_before s over = record {
             begun = subst (λ (y : ℕ). y ≤ s) cut.rest.section over.begun;

@@ -1,19 +1,17 @@
 -- A step of the replay of bytes, as one of frames: into a section, or to the end of one.
-use Rattle.std.specs.Prelude.{◌≡◌, ◌⊎◌, ◌↔◌, ℕ, ◌+◌, ◌*◌, ◌/◌, ◌<◌, ◌≤◌, Bool, false, true, List, [], length, take, drop, Option, Some, None, Result, Ok, Err, OnOk, OnErr, IsTrue, IsSome, IsSomeAnd}
+use Rattle.std.specs.Prelude.{◌≡◌, ◌⊎◌, ℕ, ◌+◌, ◌*◌, ◌/◌, ◌^◌, ◌<◌, ◌≤◌, cond, eqb, Bool, false, true, List, [], length, drop, Option, Some, None, Result, Ok, Err, OnOk, OnErr, IsTrue}
 use Rattle.std.specs.Result.{IsErrOf}
 use Rattle.std.proofs.Common.{inl, inr, refl, sym, ap, ◌∙◌, subst, arith, length-take, length-drop}
-use Rattle.std.proofs.Math.Seq.{take-length}
+use Rattle.std.proofs.lemmas.Bool.{cases_order}
 use Rattle.std.proofs.lemmas.List.{take_all}
 use Rattle.blob_device.specs.Disk.{Key, Blob, Disk}
 use Rattle.blob_device.specs.Opened.{OpenedList}
-use Rattle.blob_device.specs.Timeline.{disk, Always, Each}
+use Rattle.blob_device.specs.Timeline.{disk, Each}
 use Rattle.blob_device.specs.declared.device.Device as device
-use Rattle.blob_device.specs.declared.runtime.RError.TheVariants.{InvalidChecksum}
-use Rattle.blob_device.specs.lemmas.Moments.{always_weaker}
+use Rattle.blob_device.specs.lemmas.Moments.{always_now, always_weaker}
 use Rattle.value_codec.specs.declared.codec.Error as codec
-use Rattle.sealed_pages.specs.Buffer.{bytes_of, size_of}
+use Rattle.sealed_pages.specs.Buffer.{size_of}
 use Rattle.sealed_pages.specs.ChanceSeal.{Leaves}
-use Rattle.sealed_pages.specs.Cutting.{StandsSettled}
 use Rattle.sealed_pages.specs.SealedPrefix.{sealed_prefix}
 use Rattle.sealed_pages.specs.Shown.{shown}
 use Rattle.sealed_pages.specs.declared.page_blob.PageBlob.{PageBlob}
@@ -22,24 +20,25 @@ use Rattle.section_manager.specs.Refusing.{HasDamage, HasFailed}
 use Rattle.section_manager.specs.Sections.{section_key, key_of, IsHeld, IsOver}
 use Rattle.section_manager.specs.Setting.{Setting}
 use Rattle.section_manager.specs.declared.buffer.SectionBuffer as buffer
+use Rattle.section_manager.specs.lemmas.Keys.{key_injective}
 use Rattle.section_manager.specs.declared.journal.Damage.{Damage}
 use Rattle.section_manager.specs.declared.journal.Error.{Error}
-use Rattle.section_manager.specs.declared.journal.Error.TheVariants.{Codec, Corruption, ItemOutOfRange, Runtime}
-use Rattle.segments.specs.FixedCursor.{leaving}
+use Rattle.section_manager.specs.declared.journal.Error.TheVariants.{Corruption, ItemOutOfRange}
 use Rattle.segments.specs.FixedItems.{item_at}
-use Rattle.segments.specs.FixedLists.{AreSealed, OwesSettled, bytes_held, section_bytes, section_size}
-use Rattle.segments.specs.FixedReading.{HasNotRead, IsBelowFloor}
+use Rattle.segments.specs.FixedLists.{AreSealed, OwesSettled, bytes_held, section_bytes}
+use Rattle.segments.specs.FixedReading.{HasNotRead}
 use Rattle.segments.specs.FixedReplay as bytes
-use Rattle.segments.specs.FixedReplay.{Walk, Place, IsAhead, IsIn, IsGoneOver, IsWalk, HasWalk, WalksOver, KeepsSections, SameItems, SameWalk, kept_of, kept_bytes}
+use Rattle.segments.specs.FixedReplay.{Walk, Place, IsAhead, IsIn, IsGoneOver, IsWalk, HasWalk, WalksOver, KeepsSections, SameItems, SameWalk, first_of, kept_of, kept_bytes}
 use Rattle.segments.specs.FixedStepping.{bytes_ahead, failing, sections_ahead, way_of, word, Carries, Steps}
-use Rattle.variable_journal.specs.Frames.{frames, items_of, rest_of, whole_end, HasBadLength}
-use Rattle.variable_journal.specs.Replaying.{AreWalked, EndsSection, GivenItem, IsBoundary, IsCutToFrames, IsCuttingFrames, IsFrameWalk, IsItemAt, IsItemLeft, IsStart, KeepsFrames, ReplayingFrames, given_bytes}
-use Rattle.variable_journal.specs.Advancing.{GivesError, HasGone, HasPassed, IsFailed, IsGoing, IsKept, IsSameLeft, Keeps, LeavesLess}
+use Rattle.variable_journal.specs.Frames.{rest_of, whole_end, HasBadLength}
+use Rattle.variable_journal.specs.Replaying.{AreWalked, EndsSection, IsBoundary, IsCuttingFrames, IsItemAt, IsItemLeft, IsStart, ReplayingFrames, given_bytes}
+use Rattle.variable_journal.specs.Advancing.{GivesError, HasPassed, IsFailed, Keeps, LeavesLess, LeavesSection}
 use Rattle.variable_journal.specs.Turning.{stopped}
 use Rattle.variable_journal.specs.lemmas.Frame.{rest_none}
 use Rattle.variable_journal.specs.lemmas.Offset.{whole_within}
-use Rattle.variable_journal.specs.lemmas.Running.{frames_sealed}
-use Rattle.blob_device.proofs.general.Options.{none_in, some_of, some_there}
+use Rattle.variable_journal.specs.lemmas.Running.{cut_ends, frames_sealed}
+use Rattle.variable_journal.proofs.LeavingLemmas.{left_or_not, left_section, near_left}
+use Rattle.blob_device.proofs.general.Options.{none_in, none_or_value, some_of, some_there}
 
 -- ---- at items of one byte
 
@@ -94,7 +93,11 @@ module _ {F S D : Type 0} {gs : _} (g : buffer.Ghosts (PageBlob S gs)) (gives : 
     stays = has.stays;
     floors = has.floors;
     onward = λ s near. has.onward s (elim near [ inl ahead ↦ inl ahead | inr there ↦ absurd there ]);
-    on_disk = λ t. record { bytes = (has.on_disk t).bytes; items = (has.on_disk t).items };
+    on_disk = λ t. record {
+      bytes = (has.on_disk t).bytes;
+      items = (has.on_disk t).items;
+      behind = λ s held now far. (has.on_disk t).behind s held now far;
+    };
     moments = has.moments;
     entries = has.entries;
     faults = has.faults;
@@ -110,21 +113,6 @@ module _ {F S D : Type 0} {gs : _} (g : buffer.Ghosts (PageBlob S gs)) (gives : 
 
     key_k : (s : ℕ) → key_of k.journal.sections s ≡ key_of m.journal.sections s
     key_k s = ap (λ (p : List ℕ). section_key p s) step.same.bounds.place.partition
-
-    pub keeps_steps : Keeps g gives seal dev m k b c
-    keeps_steps = record {
-      same = step.same;
-      stays = step.stays;
-      floors = step.floors;
-      onward = step.onward;
-      on_disk = λ t. record {
-        bytes = λ s u v held now free. (let x = step.bytes s u v held now free in record { size = x.size; settled = x.settled; bytes = λ _. x.bytes t });
-        items = λ going s u held owed. (let x = step.items t going s u held owed in frames_sealed seal u.page_size (d (key_of m.journal.sections s)) (e (key_of m.journal.sections s)) (same_sealed seal u.page_size (d (key_of m.journal.sections s)) (e (key_of m.journal.sections s)) x) x.rests);
-      };
-      moments = λ t. always_weaker (dev.time b) (dev.time c) (Each (bytes.Replaying seal 1 m d)) (Each (ReplayingFrames seal m d)) (λ x each q. inl (each q)) (step.moments t);
-      entries = step.entries;
-      faults = step.faults;
-    }
 
     -- what is held was, and the same bytes of it are given
     module _ (over : IsOver g gives dev.Tells k.journal.sections (dev.opened c) e) where
@@ -146,6 +134,47 @@ module _ {F S D : Type 0} {gs : _} (g : buffer.Ghosts (PageBlob S gs)) (gives : 
           here u v hu hv page true owed =
               ap (λ (P : ℕ). sealed_prefix seal P (e (key_of m.journal.sections s)).content) page
               ∙ same_sealed seal u.page_size (d (key_of m.journal.sections s)) (e (key_of m.journal.sections s)) (step.items t going s u hu owed)
+
+      number : (s : ℕ) → IsHeld m.journal.sections s → s < 2 ^ 64
+      number s held = elim (none_or_value (k.journal.sections.unopened s)) [
+        | inl none ↦ over.opened_list.number s (inl ((step.stays s none).1.1 held))
+        | inr some ↦ over.opened_list.number s (inr (some_there (k.journal.sections.unopened s) some.0 some.1))
+      ]
+
+      -- a section that it had gone over keeps its blob
+      blob_behind : dev.Tells → (s : ℕ) → IsHeld m.journal.sections s → (IsAhead m s ⊎ IsIn m s → ⊥) → e (key_of m.journal.sections s) ≡ d (key_of m.journal.sections s)
+      blob_behind t s held far = (always_now (dev.time b) (dev.time c) (Each (bytes.Replaying seal 1 m d)) (step.moments t) (key_of m.journal.sections s)).others (λ x. (
+          let same = key_injective m.journal.sections.partition s x.0 (number s held) (number x.0 x.1.0) x.2 in
+          far (subst (λ (n : ℕ). IsAhead m n ⊎ IsIn m n) (sym same) x.1.1)))
+
+      given_behind : dev.Tells → (s : ℕ) → IsHeld m.journal.sections s → IsHeld k.journal.sections s → (IsAhead m s ⊎ IsIn m s → ⊥) → given_bytes seal k e s ≡ given_bytes seal m d s
+      given_behind t s before after far =
+          let v = some_of (k.journal.sections.held s) after in
+          let u = some_of (m.journal.sections.held s) before in
+          (λ i. kept_of seal (step.same.unrecovered s i) (v.1 i) (e (key_k s i)).content)
+          ∙ here u.0 v.0 u.1 v.1 (step.floors s u.0 v.0 u.1 v.1).page_size (m.journal.unrecovered s) refl
+          ∙ sym (λ i. kept_of seal (m.journal.unrecovered s) (u.1 i) (d (key_of m.journal.sections s)).content)
+        where
+          here : (u v : PageBlob S gs) → m.journal.sections.held s ≡ Some u → k.journal.sections.held s ≡ Some v → v.page_size ≡ u.page_size → (o : Bool) → m.journal.unrecovered s ≡ o
+              → kept_of seal o (Some v) (e (key_of m.journal.sections s)).content ≡ kept_of seal o (Some u) (d (key_of m.journal.sections s)).content
+          here u v hu hv page false free = (step.bytes s u v hu hv free).bytes t
+          here u v hu hv page true owed = (let blob = blob_behind t s before far in λ i. sealed_prefix seal (page i) (blob i).content)
+
+      pub keeps_steps : Keeps g gives seal dev m k b c
+      keeps_steps = record {
+        same = step.same;
+        stays = step.stays;
+        floors = step.floors;
+        onward = step.onward;
+        on_disk = λ t. record {
+          bytes = λ s u v held now free. (let x = step.bytes s u v held now free in record { size = x.size; settled = x.settled; bytes = λ _. x.bytes t });
+          items = λ going s u held owed. (let x = step.items t going s u held owed in frames_sealed seal u.page_size (d (key_of m.journal.sections s)) (e (key_of m.journal.sections s)) (same_sealed seal u.page_size (d (key_of m.journal.sections s)) (e (key_of m.journal.sections s)) x) x.rests);
+          behind = given_behind t;
+        };
+        moments = λ t. always_weaker (dev.time b) (dev.time c) (Each (bytes.Replaying seal 1 m d)) (Each (ReplayingFrames seal m d)) (λ x each q. inl (each q)) (step.moments t);
+        entries = step.entries;
+        faults = step.faults;
+      }
 
       -- sections that owe no replay are whole frames still
       pub framed_steps : dev.Tells → AreWalked seal m d → (s : ℕ) → k.journal.unrecovered s ≡ false → rest_of (section_bytes k.journal.sections e s) ≡ []
@@ -230,18 +259,11 @@ module _ {F S D : Type 0} {gs : _} (g : buffer.Ghosts (PageBlob S gs)) (gives : 
           ok_at (Ok y) same has = has
           ok_at (Err y) same has = absurd (cc same)
 
-          near_of : (w : Walk F (PageBlob S gs)) (x : Disk) (s o : ℕ) → bytes.IsLeft seal 1 w x s o → IsAhead w s ⊎ IsIn w s
-          near_of w x s o l = elim l.ahead [ inl here ↦ inl here.1 | inr there ↦ inr (section_in w.place s o there) ]
-            where
-              section_in : (y : Option Place) (t q : ℕ) → IsSomeAnd y (λ p. (p.section ≡ t) × (p.position ≤ q)) → IsSomeAnd y (λ p. p.section ≡ t)
-              section_in None t q has = has
-              section_in (Some p) t q has = has.0
-
           left_to : (t : dev.Tells) → Carries seal 1 m k d e → (s o : ℕ) (i : List ℕ) → IsItemLeft seal k e s o i → IsItemLeft seal m d s o i
-          left_to t x s o i l = record { byte = (x.left s o).0 l.byte; whole = subst (λ (y : List ℕ). IsItemAt y o i) (x.kept s (near_of k e s o l.byte)) l.whole }
+          left_to t x s o i l = record { byte = (x.left s o).0 l.byte; whole = subst (λ (y : List ℕ). IsItemAt y o i) (x.kept s (near_left seal k e s o l.byte)) l.whole }
 
           left_back : (t : dev.Tells) → Carries seal 1 m k d e → (s o : ℕ) (i : List ℕ) → IsItemLeft seal m d s o i → IsItemLeft seal k e s o i
-          left_back t x s o i l = (let byte = (x.left s o).1 l.byte in record { byte = byte; whole = subst (λ (y : List ℕ). IsItemAt y o i) (sym (x.kept s (near_of k e s o byte))) l.whole })
+          left_back t x s o i l = (let byte = (x.left s o).1 l.byte in record { byte = byte; whole = subst (λ (y : List ℕ). IsItemAt y o i) (sym (x.kept s (near_left seal k e s o byte))) l.whole })
 
       -- it ended a section by an error
       module _ (none : k.place ≡ None) where
@@ -302,8 +324,62 @@ module _ {F S D : Type 0} {gs : _} (g : buffer.Ghosts (PageBlob S gs)) (gives : 
           | inr (inr (inr fault)) ↦ inr (ap Err (raised_same is fault.0), fault.1)
         ]
 
-        stops_steps : (x : Error) → r ≡ Err x → dev.Tells → (k.ended ≡ true) ⊎ ((s : ℕ) × EndsSection seal m (stopped k) d e s)
-        stops_steps x is t = go k.ended refl
+        -- the section that it left: one of which a byte was left, or one of those that it came behind
+        module _ (walk : HasWalk 1 m) (ahead : (s : ℕ) → IsAhead k s → IsAhead m s) (was : m.ended ≡ false) (on : k.ended ≡ false) (t : dev.Tells) where
+          abbrev Ended : ℕ → Type 0
+          Ended s = EndsSection seal m (stopped k) d e s × LeavesSection m (stopped k) s
+
+          ended_with : (s : ℕ) → bytes.IsEndedAt seal 1 m k d e s → (p : ℕ) → bytes.IsLeft seal 1 m d s p → Ended s
+          ended_with s has p l = (
+            ends_frames t on s has,
+            record {
+              near = near_left seal m d s p l;
+              left = λ held near. elim near [
+                | inr never ↦ absurd never
+                | inl far ↦ (
+                    let first_same : first_of k s ≡ first_of m s = λ i. cond (eqb s (step.same.section i)) (step.same.position i) 0 in
+                    let now = (has.rest s p).0 (record {
+                      goes_on = on;
+                      begun = omega (arith, l.begun, first_same);
+                      whole = subst (λ (y : List ℕ). p < length y / 1) (sym (given_same t on s held)) l.whole;
+                      ahead = inl (held, far);
+                    }) in
+                    omega (arith, now.1))
+              ];
+            },
+          )
+
+          ended_without : (s : ℕ) → bytes.IsEndedAt seal 1 m k d e s → ((p : ℕ) → bytes.IsLeft seal 1 m d s p → ⊥) → (q : ℕ) × Ended q
+          ended_without s has empty = (
+            section.0,
+            (
+              ends_frames t on section.0 (record { first = λ x q l lt. omega (arith, lt, behind x q (kept x q l)); rest = λ x q. (λ l. (((has.rest x q).0 l).0, behind x q l), λ l. kept x q l.0) }),
+              record { near = section.1; left = λ held near. elim near [ inl far ↦ (let lt = section.2 section.0 far in omega (arith, lt)) | inr never ↦ absurd never ] },
+            ),
+          )
+            where
+              section : (q : ℕ) × (IsAhead m q ⊎ IsIn m q) × ((x : ℕ) → IsAhead k x → q < x)
+              section = left_section m k none step.nearer ahead (λ r at. (walk.come_to r at).1)
+
+              kept : (x q : ℕ) → bytes.IsLeft seal 1 m d x q → bytes.IsLeft seal 1 k e x q
+              kept x q l = elim (cases_order x s) [
+                | inl same ↦ absurd (empty q (subst (λ (n : ℕ). bytes.IsLeft seal 1 m d n q) same l))
+                | inr (inl lt) ↦ absurd (has.first x q l lt)
+                | inr (inr gt) ↦ (has.rest x q).1 (l, gt)
+              ]
+
+              behind : (x q : ℕ) → bytes.IsLeft seal 1 k e x q → section.0 < x
+              behind x q l = elim l.ahead [ inl here ↦ section.2 x here.1 | inr there ↦ absurd (none_in k.place (λ p. (p.section ≡ x) × (p.position ≤ q)) none there) ]
+
+          ended_some : (s : ℕ) → bytes.IsEndedAt seal 1 m k d e s → (q : ℕ) × Ended q
+          ended_some s has = elim (left_or_not seal m d s was) [
+            | inl left ↦ (s, ended_with s has left.0 left.1)
+            | inr empty ↦ ended_without s has empty
+          ]
+
+        stops_steps : (x : Error) → r ≡ Err x → HasWalk 1 m → ((s : ℕ) → IsAhead k s → IsAhead m s) → m.ended ≡ false → dev.Tells
+            → (k.ended ≡ true) ⊎ ((s : ℕ) × EndsSection seal m (stopped k) d e s × LeavesSection m (stopped k) s)
+        stops_steps x is walk ahead was t = go k.ended refl
           where
             has : bytes.Stops seal 1 m k d e
             has = err_at r is (step.stops t)
@@ -312,16 +388,20 @@ module _ {F S D : Type 0} {gs : _} (g : buffer.Ghosts (PageBlob S gs)) (gives : 
                 err_at (Ok y) same has = absurd (cc same)
                 err_at (Err y) same has = has
 
-            go : (o : Bool) → k.ended ≡ o → (k.ended ≡ true) ⊎ ((s : ℕ) × EndsSection seal m (stopped k) d e s)
+            go : (o : Bool) → k.ended ≡ o → (k.ended ≡ true) ⊎ ((s : ℕ) × EndsSection seal m (stopped k) d e s × LeavesSection m (stopped k) s)
             go true at = inl at
-            go false at = elim has.rest [ inl end ↦ inl end | inr some ↦ inr (some.0, ends_frames t at some.0 some.1) ]
+            go false at = elim has.rest [
+              | inl end ↦ inl end
+              | inr some ↦ (let ended = ended_some walk ahead was at t some.0 some.1 in inr (ended.0, ended.1.0, ended.1.1))
+            ]
 
-        module _ {V C : Type 0} (item_spelling : V → List ℕ) (item_accepted : V → C → Type 0) (item_refusal : List ℕ → C → Option codec.Error) (config : C) (free : (s : ℕ) → m.journal.floor_of s ≡ 0) (was : m.ended ≡ false)
+        module _ {V C : Type 0} (item_spelling : V → List ℕ) (item_accepted : V → C → Type 0) (item_refusal : List ℕ → C → Option codec.Error) (config : C) (free : (s : ℕ) → m.journal.floor_of s ≡ 0) (was : m.ended ≡ false) (walk : HasWalk 1 m) (ahead : (s : ℕ) → IsAhead k s → IsAhead m s)
             (one_byte : (l : List ℕ) → length l ≡ 1 → refusal l tt ≡ None) where
           says_steps : (x : Error) → r ≡ Err x → dev.Tells → IsFailed seal m (stopped k) d e item_refusal config x (dev.faults b) (dev.faults c)
           says_steps x is t = record {
-            stops = stops_steps x is t;
+            stops = stops_steps x is walk ahead was t;
             ends = λ at. (cutting_steps t was at, failed_steps x is was at t);
+            cut = cut_ends g gives seal dev m (stopped k) b c (keeps_stopped m k b c keeps_steps) t;
             start = λ p at. (let has = step.start t p (seen_at at) in (has.0, (let less = has.1 in omega (arith, less)), has.2, ends_frames t (not_ended x is was (no_start at)) m.start_section has.3));
             refused = λ y at. absurd (none_refused (step.refused t y (seen_at at)));
             damaged = λ n at. (let has = (step.damaged t n (seen_at at)).damage in no_floor has.section (step.same.floors has.section ∙ free has.section) has.floor);

@@ -1,5 +1,5 @@
 -- A frame as the code comes to it: what `frame` asks, and each of its answers.
-use Rattle.std.specs.Prelude.{◌≡◌, ◌⊎◌, ℕ, ◌+◌, ◌-◌, ◌*◌, ◌/◌, ◌^◌, ◌<◌, ◌≤◌, Bool, false, true, List, [], length, take, drop, Option, Some, None, Result, Ok, Err, IfSome, IsSome, IsSomeAnd, MatchOption}
+use Rattle.std.specs.Prelude.{◌≡◌, ◌⊎◌, ℕ, ◌+◌, ◌-◌, ◌*◌, ◌<◌, ◌≤◌, Bool, false, true, List, [], length, take, drop, Option, Some, None, Result, Ok, Err, IfSome, IsSome, IsSomeAnd, MatchOption}
 use Rattle.std.proofs.Common.{inl, inr, refl, sym, ap, ◌∙◌, subst, arith, length-drop}
 use Rattle.std.proofs.lemmas.List.{drop-take}
 use Rattle.blob_device.specs.Timeline.{disk}
@@ -15,22 +15,22 @@ use Rattle.section_manager.specs.declared.buffer.SectionBuffer as buffer
 use Rattle.section_manager.specs.declared.journal.Error.{Error}
 use Rattle.section_manager.specs.declared.journal.Error.TheVariants.{Codec, Corruption, ItemOutOfRange, Mem, Runtime}
 use Rattle.segments.specs.FixedBounds.{whole_of}
-use Rattle.segments.specs.FixedCursor.{Turns, kept_at, passing}
+use Rattle.segments.specs.FixedCursor.{Turns, passing}
 use Rattle.segments.specs.FixedReading.{HasNotRead}
 use Rattle.segments.specs.FixedReplay.{Walk, Place, HasWalk, first_of}
-use Rattle.segments.specs.FixedStepping.{bytes_ahead, failing, sections_ahead, standing, way_of, word}
-use Rattle.variable_journal.specs.Reading.{IsPastLast, Spells}
-use Rattle.variable_journal.specs.Replaying.{GivenItem, IsBoundary, given_bytes}
+use Rattle.segments.specs.FixedStepping.{bytes_ahead, sections_ahead, way_of, word}
+use Rattle.variable_journal.specs.Reading.{IsPastLast}
+use Rattle.variable_journal.specs.Replaying.{GivenItem, IsBoundary, LeavesWhole, given_bytes}
 use Rattle.variable_journal.specs.Advancing.{GivesError, GivesOne, HasPassed, IsGoing}
-use Rattle.variable_journal.specs.Turning.{BytesGo, HasReached, HasTurned, IsAt, IsAtFrame, IsAtTorn, IsFurther, Looks, MayLook, TurnEnds, stopped}
+use Rattle.variable_journal.specs.Turning.{BytesGo, HasReached, HasTurned, IsAtFrame, IsAtTorn, IsFurther, Looks, MayLook, TurnEnds, stopped}
 use Rattle.variable_journal.proofs.LengthLemmas.{past_of_long}
 use Rattle.variable_journal.proofs.LookingLemmas.{and_at, at_some, disk_same, match_at, some_and, whole_bytes}
 use Rattle.variable_journal.proofs.ReadingLemmas.{mem_or}
-use Rattle.variable_journal.specs.lemmas.Running.{error_then, one_then, passed_then}
+use Rattle.variable_journal.specs.lemmas.Running.{error_then, one_then, passed_then, whole_then}
 use Rattle.variable_journal.proofs.SteppingLemmas.{walk_left}
 use Rattle.variable_journal.proofs.TakingLemmas.{frame_given, frame_skipped, least_there, left_there}
 use Rattle.variable_journal.proofs.TornLemmas.{stands_at}
-use Rattle.variable_journal.proofs.TurningLemmas.{error_looked, error_stopped, passed_looked, walked_looked}
+use Rattle.variable_journal.proofs.TurningLemmas.{error_looked, error_stopped, near_looked, passed_looked, walked_looked}
 
 raised_never : (x : codec.Error) (y : Error) → (Mem ≡ y → ⊥) → (Codec x ≡ y → ⊥) → raised_codec x ≡ y → ⊥
 raised_never x y memory code is = elim (mem_or x) [ inl none ↦ memory (sym (ap raised_codec none) ∙ is) | inr own ↦ code (sym own ∙ is) ]
@@ -79,15 +79,19 @@ module _ {F S D V C : Type 0} {gs : _} (g : buffer.Ghosts (PageBlob S gs)) (give
         let after : way_of m ≡ sections_ahead w.next_section * (word + 1) + bytes_ahead (Some q.0) = ap way_of q.2.goes in
         omega (arith, before, after, q.2.size, q.2.at)
 
+    still_whole : dev.Tells → LeavesWhole seal w m (disk (dev.time a)) (disk (dev.time b))
+    still_whole t s near far = absurd (far (near_looked g gives seal dev w r at a b was.bytes x m q.0 q.1 looks s near))
+
     -- what a turn from there answers, it answers from where it began
     pub still_turn : (n : Walk F (PageBlob S gs)) (c : D) (result : Result (Option (GivenItem V)) Error) → TurnEnds g gives seal dev spelling accepted refusal config m n b c result → TurnEnds g gives seal dev spelling accepted refusal config w n a c result
     still_turn n c (Ok None) did = record {
       over = did.over;
       passed = passed_then g gives seal dev w m n a b c still_passed still_ended did.passed;
+      whole = whole_then g gives seal dev w m n a b c still_passed still_ended still_whole did.passed.gone did.whole;
       nearer = omega (arith, still_way, did.nearer);
     }
-    still_turn n c (Ok (Some y)) did = one_then g gives seal dev w m n a b c still_passed still_ended spelling accepted refusal config still_way y did
-    still_turn n c (Err e) did = error_then g gives seal dev w m (stopped n) a b c still_passed still_ended spelling accepted refusal config still_way e did
+    still_turn n c (Ok (Some y)) did = one_then g gives seal dev w m n a b c still_passed still_ended still_whole spelling accepted refusal config still_way y did
+    still_turn n c (Err e) did = error_then g gives seal dev w m (stopped n) a b c still_passed still_ended still_whole spelling accepted refusal config still_way e did
 
   module _ (section offset header size : ℕ) (w : Walk F (PageBlob S gs)) (a b : D) (frame : IsAtFrame g gives seal dev section offset header size w a) (m : Walk F (PageBlob S gs)) where
     stand : (x : Reader) × (w.place ≡ Some (record { section = section; position = offset; reader = x }))
@@ -169,14 +173,14 @@ module _ {F S D V C : Type 0} {gs : _} (g : buffer.Ghosts (PageBlob S gs)) (give
             ∙ drop-take header size (drop offset (given_bytes seal w (disk (dev.time a)) section))
 
       -- the start is that of the replay before
-      pub frame_first : first_of m section ≡ first_of w section
+      frame_first : first_of m section ≡ first_of w section
       frame_first = ap (λ (y : Walk F (PageBlob S gs)). first_of y section) place.2.goes
 
       -- an error of the codec
-      pub frame_refused : enough ≡ true → (x : codec.Error) (item : List ℕ) → first_of w section ≤ offset
+      pub frame_refused : enough ≡ true → (x : codec.Error) (item : List ℕ) (first : ℕ) → first ≡ first_of m section → first ≤ offset
           → (dev.Tells → item ≡ take size (drop header (drop offset (given_bytes seal w (disk (dev.time a)) section)))) → (x ≡ code.Mem) ⊎ (refusal item config ≡ Some x)
           → GivesError g gives seal dev spelling accepted refusal config w (stopped m) a b (raised_codec x)
-      frame_refused on x item begun item_is why =
+      frame_refused on x item first first_is begun item_is why =
           let same : stopped m ≡ stopped w = ap stopped (q enough w r stand.1 a b was frame.place.going m reach.looks reach.still).2.goes in
           subst (λ (y : Walk F (PageBlob S gs)). GivesError g gives seal dev spelling accepted refusal config w y a b (raised_codec x)) (sym same)
           (error_stopped g gives seal dev w r stand.1 a b was.bytes spelling accepted refusal config (raised_codec x) was.free was.walked frame.place.going
@@ -186,7 +190,7 @@ module _ {F S D V C : Type 0} {gs : _} (g : buffer.Ghosts (PageBlob S gs)) (give
           (λ t y is. inl (
             offset,
             take size (drop header (drop offset (given_bytes seal w (disk (dev.time a)) section))),
-            left_there g gives seal dev spelling accepted refusal config w r stand.1 a b was frame.place.going size header frame.begins m place.0 place.1 some_bytes (reach_on on) begun t,
+            left_there g gives seal dev spelling accepted refusal config w r stand.1 a b was frame.place.going size header frame.begins m place.0 place.1 some_bytes (reach_on on) (omega (arith, begun, first_is, frame_first)) t,
             least_there g gives seal dev spelling accepted refusal config w r stand.1 a b was frame.place.going size header frame.begins m place.0 place.1 some_bytes (reach_on on),
             subst (λ (l : List ℕ). refusal l config ≡ Some y) (item_is t) (refused_by y is),
           ))
@@ -211,11 +215,11 @@ module _ {F S D V C : Type 0} {gs : _} (g : buffer.Ghosts (PageBlob S gs)) (give
 
       module _ (on : enough ≡ true) (n : Walk F (PageBlob S gs)) (turn : Turns seal 1 (passing 1 (header + size) m) m n) where
         -- a frame before the start is passed over
-        pub frame_passed : offset < first_of w section → HasTurned g gives seal dev spelling accepted refusal config w n a b
-        frame_passed early = frame_skipped g gives seal dev spelling accepted refusal config w r stand.1 a b was frame.place.going size header frame.begins m place.0 place.1 some_bytes (reach_on on) n turn early
+        pub frame_passed : (first : ℕ) → first ≡ first_of m section → offset < first → HasTurned g gives seal dev spelling accepted refusal config w n a b
+        frame_passed first is early = frame_skipped g gives seal dev spelling accepted refusal config w r stand.1 a b was frame.place.going size header frame.begins m place.0 place.1 some_bytes (reach_on on) n turn (omega (arith, early, is, frame_first))
 
         -- and an item is given
-        pub frame_gave : first_of w section ≤ offset → (v : V) (item : List ℕ) → (dev.Tells → item ≡ take size (drop header (drop offset (given_bytes seal w (disk (dev.time a)) section)))) → spelling v ≡ item → accepted v config
+        pub frame_gave : (first : ℕ) → first ≡ first_of m section → first ≤ offset → (v : V) (item : List ℕ) → (dev.Tells → item ≡ take size (drop header (drop offset (given_bytes seal w (disk (dev.time a)) section)))) → spelling v ≡ item → accepted v config
             → GivesOne g gives seal dev spelling accepted refusal config w n a b (section, offset, size, v)
-        frame_gave begun v item item_is spelled allowed = frame_given g gives seal dev spelling accepted refusal config w r stand.1 a b was frame.place.going size header frame.begins m place.0 place.1 some_bytes (reach_on on) n turn begun v
+        frame_gave first is begun v item item_is spelled allowed = frame_given g gives seal dev spelling accepted refusal config w r stand.1 a b was frame.place.going size header frame.begins m place.0 place.1 some_bytes (reach_on on) n turn (omega (arith, begun, is, frame_first)) v
             (λ t. record { spelled = spelled ∙ item_is t; allowed = allowed })

@@ -1,5 +1,5 @@
 -- The frame at the place of a replay is taken, or passed over.
-use Rattle.std.specs.Prelude.{◌≡◌, ◌⊎◌, ◌↔◌, ℕ, ◌+◌, ◌-◌, ◌*◌, ◌/◌, ◌^◌, ◌<◌, ◌≤◌, false, true, List, [], ◌∷◌, length, take, drop, Option, Some, None, Result, Ok, Err, IsSomeAnd}
+use Rattle.std.specs.Prelude.{◌≡◌, ◌⊎◌, ℕ, ◌+◌, ◌*◌, ◌/◌, ◌^◌, ◌<◌, ◌≤◌, false, true, List, ◌∷◌, length, take, drop, Option, Some, Ok, IsSomeAnd}
 use Rattle.std.proofs.Common.{inl, inr, refl, sym, ap, ◌∙◌, subst, arith, length-append, length-drop, length-take}
 use Rattle.blob_device.specs.Disk.{Disk}
 use Rattle.blob_device.specs.Timeline.{disk}
@@ -10,18 +10,18 @@ use Rattle.value_codec.specs.lemmas.Varint.{varint_only}
 use Rattle.sealed_pages.specs.declared.page_blob.PageBlob.{PageBlob}
 use Rattle.section_manager.specs.Setting.{Setting}
 use Rattle.section_manager.specs.declared.buffer.SectionBuffer as buffer
-use Rattle.segments.specs.FixedCursor.{Turns, after_items, kept_at, passing}
+use Rattle.segments.specs.FixedCursor.{Turns, after_items, passing}
 use Rattle.segments.specs.FixedReplay.{Walk, Place, IsAhead, IsLeft, StandsBefore, StandsIn, first_of}
 use Rattle.segments.specs.FixedStepping.{bytes_ahead, sections_ahead, way_of, word}
 use Rattle.variable_journal.specs.Frames.{frame, BeginsWithFrame}
 use Rattle.variable_journal.specs.Reading.{Spells}
-use Rattle.variable_journal.specs.Replaying.{GivesItem, IsBoundary, IsItemAt, IsItemLeft, given_bytes}
+use Rattle.variable_journal.specs.Replaying.{IsBoundary, IsItemAt, IsItemLeft, LeavesWhole, given_bytes}
 use Rattle.variable_journal.specs.Advancing.{GivesOne, IsGoing}
 use Rattle.variable_journal.specs.Turning.{HasReached, HasTurned, IsFurther, Looks}
 use Rattle.variable_journal.proofs.LengthLemmas.{header_frame, header_only}
 use Rattle.variable_journal.proofs.LookingLemmas.{and_at, at_some, disk_same, further_passed, looks_passed, looks_then, some_and}
 use Rattle.variable_journal.proofs.OffsetLemmas.{behind_item, boundary_on, item_here, next_item}
-use Rattle.variable_journal.proofs.TurningLemmas.{ahead_far, gone_looked, passed_looked, walked_looked}
+use Rattle.variable_journal.proofs.TurningLemmas.{ahead_far, gone_looked, near_looked, passed_looked, walked_looked}
 
 -- how many bytes a frame has whose length takes so many
 frame_size : (bytes : List ℕ) (n len : ℕ) (item rest : List ℕ) → BeginsWithVarint (2 ^ 32) bytes n len → BeginsWithFrame bytes item rest → length (frame item) ≡ len + n
@@ -117,6 +117,10 @@ module _ {F S D V C : Type 0} {gs : _} (g : buffer.Ghosts (PageBlob S gs)) (give
         let spot = u.2.at in
         omega (arith, before, after, within, long, spot, some, first.size, first.at)
 
+    -- no section is left
+    whole : dev.Tells → LeavesWhole seal w k d (disk (dev.time b))
+    whole t s near far = absurd (far (near_looked g gives seal dev w r at a b was.bytes tt k p place looks s near))
+
     -- an item that is left behind the frame
     behind : (t : dev.Tells) (o : ℕ) (i : List ℕ) → IsItemAt kept o i → r.position ≤ o → (o ≡ r.position) ⊎ (p.position ≤ o)
     behind t o i there_is le = elim (behind_item kept r.position o item i (next t).0 (was.place t r at) (next t).1 there_is le) [
@@ -132,6 +136,7 @@ module _ {F S D V C : Type 0} {gs : _} (g : buffer.Ghosts (PageBlob S gs)) (give
         | inl here ↦ absurd (omega (arith, here, begun, early))
         | inr far ↦ far
       ]);
+      whole = whole;
       nearer = nearer;
     }
 
@@ -147,10 +152,12 @@ module _ {F S D V C : Type 0} {gs : _} (g : buffer.Ghosts (PageBlob S gs)) (give
           | inl here ↦ (let far = ahead_far seal w r.section not_ahead own s here.1 in elim before [ inl lt ↦ omega (arith, far, lt) | inr same ↦ omega (arith, far, same.0) ])
           | inr inside ↦ (let x = and_at w.place (λ (y : Place). (y.section ≡ s) × (y.position ≤ o)) r at inside in elim before [ inl lt ↦ omega (arith, x.0, lt) | inr same ↦ omega (arith, x.1, same.1) ])
         ];
+        lengths = λ s near lt. elim near [ inl ahead ↦ (let far = ahead_far seal w r.section not_ahead own s ahead in absurd (omega (arith, far, lt))) | inr inside ↦ (let is = own s inside in absurd (omega (arith, is, lt))) ];
         spells = spells t;
         sized = sym (header_only (drop r.position kept) size header item (drop (header + size) (drop r.position kept)) (begins t) (frame_there t)).0;
         rest = λ s o i. (forth t s o i, λ l. back t s o i l.0 l.1);
       };
+      whole = whole;
       nearer = nearer;
     }
       where

@@ -1,12 +1,12 @@
 -- What a buffer has in memory of a frame.
-use Rattle.std.proofs.Common.{◌≡◌, ◌∙◌, ◌⊎◌, ◌↔◌, ℕ, ◌+◌, ◌-◌, ◌<◌, ◌≤◌, ◌^◌, true, false, Bool, List, [], ◌++◌, length, take, drop, Option, None, Some, Result, Ok, Err, inl, inr, refl, sym, ap, subst, arith, append_assoc, length-append, length-take, length-drop, take-append-drop}
+use Rattle.std.proofs.Common.{◌≡◌, ◌∙◌, ◌⊎◌, ◌↔◌, ℕ, ◌+◌, ◌-◌, ◌<◌, ◌≤◌, ◌^◌, true, false, Bool, List, [], ◌++◌, length, take, drop, Option, None, Some, Result, Ok, Err, inl, inr, sym, ap, subst, arith, append_assoc, length-append, length-take, length-drop, take-append-drop}
 use Rattle.std.proofs.lemmas.Bool.{cases_lt}
 use Rattle.std.proofs.lemmas.List.{append-nil, drop-drop}
 use Rattle.std.proofs.Math.Seq.{drop-append_seam, take-append_seam}
 use Rattle.value_codec.specs.Varint.{varint, BeginsWithVarint, ReadsBack}
 use Rattle.value_codec.specs.declared.codec.Error as codec
 use Rattle.sealed_pages.specs.lemmas.memory.Holding.{bytes_length}
-use Rattle.value_codec.specs.lemmas.Varint.{varint_apart, varint_only}
+use Rattle.value_codec.specs.lemmas.Varint.{varint_only}
 use Rattle.variable_journal.specs.lemmas.Frame.{varint_few}
 use Rattle.sealed_pages.specs.Buffer.{bytes_of, size_of}
 use Rattle.sealed_pages.specs.PageReads.{TriesHeld}
@@ -17,7 +17,7 @@ use Rattle.section_manager.specs.Refusing.{IsPruned}
 use Rattle.section_manager.specs.declared.journal.Error.{Error}
 use Rattle.segments.specs.FixedLists.{Lists}
 use Rattle.segments.specs.FixedReading.{IsAbsent}
-use Rattle.variable_journal.specs.Frames.{frame, BeginsWithFrame}
+use Rattle.variable_journal.specs.Frames.{frame}
 use Rattle.variable_journal.specs.Reading.{Spells}
 use Rattle.variable_journal.specs.Trying.{GetsHeld, HoldsFrame, HoldsLength, IsCacheOf, TriesGet, bytes_from}
 use Rattle.variable_journal.proofs.LengthLemmas.{found_on, header_frame, header_only}

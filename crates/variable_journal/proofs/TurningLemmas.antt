@@ -1,8 +1,8 @@
 -- Turns of a replay of frames that write nothing: looks at bytes, and errors of its own.
-use Rattle.std.specs.Prelude.{◌≡◌, ◌⊎◌, ◌↔◌, ℕ, ◌+◌, ◌*◌, ◌<◌, ◌≤◌, Bool, false, true, List, [], length, take, drop, Option, Some, None, Result, Ok, Err, OnOk, OnErr, IsTrue, IsSome, IsSomeAnd}
+use Rattle.std.specs.Prelude.{◌≡◌, ◌⊎◌, ◌↔◌, ℕ, ◌+◌, ◌*◌, ◌<◌, ◌≤◌, false, List, Option, Some, None, Result, Ok, Err, IsSomeAnd}
 use Rattle.std.proofs.Common.{inl, inr, refl, sym, ap, ◌∙◌, subst, arith}
 use Rattle.std.proofs.lemmas.Bool.{cases_lt}
-use Rattle.blob_device.specs.Disk.{Key, Blob, Disk}
+use Rattle.blob_device.specs.Disk.{Key, Disk}
 use Rattle.blob_device.specs.Timeline.{disk, Always, Each}
 use Rattle.blob_device.specs.declared.device.Device as device
 use Rattle.blob_device.specs.declared.runtime.RError.TheVariants.{Fault, InvalidChecksum}
@@ -18,7 +18,7 @@ use Rattle.section_manager.specs.declared.buffer.SectionBuffer as buffer
 use Rattle.section_manager.specs.declared.journal.Damage.{Damage}
 use Rattle.section_manager.specs.declared.journal.Error.{Error}
 use Rattle.section_manager.specs.declared.journal.Error.TheVariants.{Codec, Corruption, ItemOutOfRange, Mem, Runtime}
-use Rattle.segments.specs.FixedCursor.{kept_at, leaving}
+use Rattle.segments.specs.FixedCursor.{kept_at}
 use Rattle.segments.specs.FixedReading.{HasNotRead}
 use Rattle.segments.specs.FixedReplay as bytes
 use Rattle.segments.specs.FixedReplay.{Walk, Place, IsAhead, IsIn, IsWalk, first_of}
@@ -26,14 +26,14 @@ use Rattle.segments.specs.FixedStepping.{bytes_ahead, failing, sections_ahead, s
 use Rattle.segments.specs.lemmas.replay.Ending.{ahead_from}
 use Rattle.segments.specs.lemmas.replay.Walks.{same_bytes}
 use Rattle.segments.specs.lemmas.replay.WalksOn.{replaying_start}
-use Rattle.variable_journal.specs.lemmas.Running.{frames_same}
+use Rattle.variable_journal.specs.lemmas.Running.{cut_ends, frames_same}
 use Rattle.segments.specs.lemmas.FixedOwed.{same_or_cut}
 use Rattle.variable_journal.specs.Frames.{HasBadLength, rest_of}
-use Rattle.variable_journal.specs.Replaying.{AreWalked, EndsSection, GivenItem, IsCutToFrames, IsItemAt, IsItemLeft, ReplayingFrames, given_bytes}
-use Rattle.variable_journal.specs.Advancing.{GivesError, GivesOne, HasGone, HasPassed, IsGoing, LeavesLess}
+use Rattle.variable_journal.specs.Replaying.{AreWalked, EndsSection, IsItemAt, IsItemLeft, ReplayingFrames, given_bytes}
+use Rattle.variable_journal.specs.Advancing.{GivesError, HasGone, HasPassed, Keeps, LeavesLess}
 use Rattle.variable_journal.specs.Turning.{BytesGo, IsFurther, Looks, stopped}
 use Rattle.variable_journal.proofs.LookingLemmas.{and_at, at_some, disk_same, some_and}
-use Rattle.blob_device.proofs.general.Options.{none_in, same_some, some_there}
+use Rattle.blob_device.proofs.general.Options.{same_some, some_there}
 
 module _ {F S : Type 0} {gs : _} (seal : List ℕ → ℕ) (w : Walk F (PageBlob S gs)) (s : ℕ) (not_ahead : IsAhead w s → ⊥) (own : (t : ℕ) → IsIn w t → t ≡ s) where
   in_of : (o : Option Place) (t q : ℕ) → IsSomeAnd o (λ p. (p.section ≡ t) × (p.position ≤ q)) → IsSomeAnd o (λ p. p.section ≡ t)
@@ -162,6 +162,7 @@ module _ {F S D : Type 0} {gs : _} (g : buffer.Ghosts (PageBlob S gs)) (gives : 
         on_disk = λ t. record {
           bytes = λ s u v held also free. same_bytes (Unit {0}) u v (d (key_of w.journal.sections s)) (e (key_of w.journal.sections s)) (same_some (w.journal.sections.held s) u v held also) (λ x. ap (λ (y : Disk). y (key_of w.journal.sections s)) (same t));
           items = λ going s u held owed. frames_same seal u.page_size (d (key_of w.journal.sections s)) (e (key_of w.journal.sections s)) (ap (λ (y : Disk). y (key_of w.journal.sections s)) (same t));
+          behind = λ s held also far. ap (λ (x : Disk). given_bytes seal w x s) (same t);
         };
         moments = λ t. moments_here (still t);
         entries = entries_here entries;
@@ -202,6 +203,15 @@ module _ {F S D : Type 0} {gs : _} (g : buffer.Ghosts (PageBlob S gs)) (gives : 
       let same : m ≡ standing w (record { section = r.section; position = q.position; reader = q.reader }) = f.goes ∙ (λ i. standing w (record { section = f.section i; position = q.position; reader = q.reader })) in
       subst (λ (y : Walk F (PageBlob S gs)). HasPassed g gives seal dev w y a b) (sym same) (passed_here q f.section f.position looks.entries looks.unchanged looks.faults none)
 
+  -- they leave no section
+  pub near_looked : {T : Type 0} (x : T) (m : Walk F (PageBlob S gs)) (q : Place) → m.place ≡ Some q → Looks g gives seal dev r w m a b (Ok x) → (s : ℕ) → IsAhead w s ⊎ IsIn w s → IsAhead m s ⊎ IsIn m s
+  near_looked x m q there looks s near =
+      let f = and_at m.place (IsFurther w m r) q there looks.rest in
+      elim near [
+        | inl ahead ↦ inl (subst (λ (y : Walk F (PageBlob S gs)). IsAhead y s) (sym f.goes) ahead)
+        | inr inside ↦ inr (some_and m.place (λ (p : Place). p.section ≡ s) q there (f.section ∙ sym (own_here s inside)))
+      ]
+
   -- sections stay whole frames, wherever it stands
   pub walked_looked : {T : Type 0} (x : T) (m : Walk F (PageBlob S gs)) (q : Place) → m.place ≡ Some q → Looks g gives seal dev r w m a b (Ok x) → dev.Tells → AreWalked seal w d → AreWalked seal m e
   walked_looked x m q there looks t walked =
@@ -225,19 +235,7 @@ module _ {F S D : Type 0} {gs : _} (g : buffer.Ghosts (PageBlob S gs)) (gives : 
       → HasNotRead {T = V} (Err x) (dev.faults a) (dev.faults b)
       → GivesError g gives seal dev spelling accepted refusal config w (stopped w) a b x
   error_stopped spelling accepted refusal config x free walked going broken entries still faults no_start why no_page no_floor cause = record {
-    keeps = record {
-      same = record { bounds = record { place = record { partition = refl; factory = refl }; floor = refl; ceiling = refl }; unrecovered = λ s. refl; floors = λ s. refl; section = refl; position = refl };
-      stays = λ s never. (never, (λ h. h, λ h. h));
-      floors = λ s u v held also. same_or_cut (w.journal.floor_of s) u v (same_some (w.journal.sections.held s) u v held also);
-      onward = λ s near. elim near [ inl ahead ↦ inl ahead | inr never ↦ absurd never ];
-      on_disk = λ t. record {
-        bytes = λ s u v held also free. same_bytes (Unit {0}) u v (d (key_of w.journal.sections s)) (e (key_of w.journal.sections s)) (same_some (w.journal.sections.held s) u v held also) (λ y. ap (λ (z : Disk). z (key_of w.journal.sections s)) (same t));
-        items = λ going s u held owed. frames_same seal u.page_size (d (key_of w.journal.sections s)) (e (key_of w.journal.sections s)) (ap (λ (z : Disk). z (key_of w.journal.sections s)) (same t));
-      };
-      moments = λ t. moments_here (still t);
-      entries = entries_here entries;
-      faults = faults;
-    };
+    keeps = keeps;
     over = record {
       bytes = broken;
       free = free;
@@ -250,10 +248,18 @@ module _ {F S D : Type 0} {gs : _} (g : buffer.Ghosts (PageBlob S gs)) (gives : 
     };
     failed = refl;
     says = λ t. record {
-      stops = inr (r.section, ends t);
+      stops = inr (r.section, ends t, record { near = inr (in_here r.section refl); left = λ held near. elim near [ inl ahead ↦ not_ahead ahead | inr never ↦ absurd never ] });
       ends = λ is. absurd (cc (is, going));
+      cut = cut_ends g gives seal dev w (stopped w) a b keeps t;
       start = λ p is. absurd (no_start p is);
-      refused = λ y is. record { section = r.section; near = inr (in_here r.section refl); ends = ends t; why = why t y is };
+      refused = λ y is. record {
+        section = r.section;
+        near = inr (in_here r.section refl);
+        ends = ends t;
+        lengths = λ s near lt. absurd (none_before s near lt);
+        whole = λ s near lt. absurd (none_before s near lt);
+        why = why t y is;
+      };
       damaged = no_page t;
       floor = no_floor;
     };
@@ -263,6 +269,29 @@ module _ {F S D : Type 0} {gs : _} (g : buffer.Ghosts (PageBlob S gs)) (gives : 
     where
       same : (t : dev.Tells) → e ≡ d
       same t = disk_same g gives seal dev a b (still t)
+
+      not_ahead : IsAhead w r.section → ⊥
+      not_ahead = (was.walk.come_to r at).1
+
+      -- no section before it was to be gone over
+      none_before : (s : ℕ) → IsAhead w s ⊎ IsIn w s → s < r.section → ⊥
+      none_before s near lt = elim near [ inl ahead ↦ not_ahead (ahead_from w.next_section s r.section (omega (arith, lt)) ahead) | inr inside ↦ (let is = own_here s inside in omega (arith, is, lt)) ]
+
+      keeps : Keeps g gives seal dev w (stopped w) a b
+      keeps = record {
+        same = record { bounds = record { place = record { partition = refl; factory = refl }; floor = refl; ceiling = refl }; unrecovered = λ s. refl; floors = λ s. refl; section = refl; position = refl };
+        stays = λ s never. (never, (λ h. h, λ h. h));
+        floors = λ s u v held also. same_or_cut (w.journal.floor_of s) u v (same_some (w.journal.sections.held s) u v held also);
+        onward = λ s near. elim near [ inl ahead ↦ inl ahead | inr never ↦ absurd never ];
+        on_disk = λ t. record {
+          bytes = λ s u v held also free. same_bytes (Unit {0}) u v (d (key_of w.journal.sections s)) (e (key_of w.journal.sections s)) (same_some (w.journal.sections.held s) u v held also) (λ y. ap (λ (z : Disk). z (key_of w.journal.sections s)) (same t));
+          items = λ going s u held owed. frames_same seal u.page_size (d (key_of w.journal.sections s)) (e (key_of w.journal.sections s)) (ap (λ (z : Disk). z (key_of w.journal.sections s)) (same t));
+          behind = λ s held also far. ap (λ (x : Disk). given_bytes seal w x s) (same t);
+        };
+        moments = λ t. moments_here (still t);
+        entries = entries_here entries;
+        faults = faults;
+      }
 
       ends : (t : dev.Tells) → EndsSection seal w (stopped w) d e r.section
       ends t = subst (λ (y : Disk). EndsSection seal w (stopped w) d y r.section) (sym (same t)) (ends_left seal w r.section (was.walk.come_to r at).1 own_here d)

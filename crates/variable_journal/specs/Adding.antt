@@ -98,6 +98,8 @@ module _ {S C D : Type 0} {gs : _} (g : buffer.Ghosts (PageBlob S gs))
     -- it is full only where the frame is too much for its blob
     pub full : IsErrOf result Full → dev.Tells ⊎ IsHeld j.sections section
         → WouldOverfill j section (length (frame spelled))
+    -- of a section that is held then no call of the device is made
+    pub full_refuses : IsErrOf result Full → IsHeld j.sections section → new ≡ old
     -- then it is full, unless there was no memory to see it
     pub full_first : length spelled < 2 ^ 32 → j.sections.floor ≤ section → (u : _)
         → j.sections.held section ≡ Some u

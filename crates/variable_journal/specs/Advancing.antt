@@ -5,6 +5,7 @@ use Rattle.blob_device.specs.Timeline.{disk, Always, Each}
 use Rattle.blob_device.specs.declared.device.Device as device
 use Rattle.blob_device.specs.declared.runtime.RError.TheVariants.{InvalidChecksum}
 use Rattle.value_codec.specs.declared.codec.Error as codec
+use Rattle.sealed_pages.specs.Cutting.{StandsSettled}
 use Rattle.sealed_pages.specs.declared.page_blob.PageBlob.{PageBlob}
 use Rattle.section_manager.specs.Refusing.{HasFailed}
 use Rattle.section_manager.specs.Sections.{key_of, IsHeld, IsKeyOf}
@@ -17,7 +18,13 @@ use Rattle.segments.specs.FixedLists.{section_size}
 use Rattle.segments.specs.FixedReading.{HasNotRead}
 use Rattle.segments.specs.FixedReplay.{Walk, IsAhead, IsDrained, IsIn, KeepsBytes, KeepsFloors, KeepsSections, SameWalk}
 use Rattle.segments.specs.FixedStepping.{way_of, GoesOn}
-use Rattle.variable_journal.specs.Replaying.{GivenItem, IsCuttingFrames, IsFrameWalk, IsItemLeft, KeepsFrames, GivesItem, EndsSection, RefusesItem, ReplayingFrames, given_bytes}
+use Rattle.variable_journal.specs.Replaying.{GivenItem, IsCuttingFrames, IsFrameWalk, IsItemLeft, KeepsFrames, GivesItem, EndsSection, LeavesFrames, LeavesWhole, RefusesItem, ReplayingFrames, given_bytes}
+
+-- The replay w had not gone over section s, and k does not come back to it.
+pub record LeavesSection {F B : Type 0} (w k : Walk F B) (s : ℕ) : Type 0 where
+  pub near : IsAhead w s ⊎ IsIn w s
+  -- it is behind the replay, or was lost
+  pub left : IsHeld k.journal.sections s → IsAhead k s ⊎ IsIn k s → ⊥
 
 module _ {F S : Type 0} {gs : _} (seal : List ℕ → ℕ) (w k : Walk F (PageBlob S gs)) (d e : Disk) where
   -- What a replay keeps of a disk, however a call ends.
@@ -29,6 +36,9 @@ module _ {F S : Type 0} {gs : _} (seal : List ℕ → ℕ) (w k : Walk F (PageBl
         → IsTrue (w.journal.unrecovered s)
         → KeepsFrames seal u.page_size (d (key_of w.journal.sections s))
         (e (key_of w.journal.sections s))
+    -- one that is not to be gone over any more stays as it was, also where this fails or ends
+    pub behind : (s : ℕ) → IsHeld w.journal.sections s → IsHeld k.journal.sections s
+        → (IsAhead w s ⊎ IsIn w s → ⊥) → given_bytes seal k e s ≡ given_bytes seal w d s
 
   -- what the later replay may leave of a blob, the earlier may
   abbrev pub LeavesLess : Type 0
@@ -46,11 +56,17 @@ module _ {F S : Type 0} {gs : _} (seal : List ℕ → ℕ) (w k : Walk F (PageBl
   -- What an error of a replay says.
   pub record IsFailed {C : Type 0} (refusal : List ℕ → C → Option codec.Error) (config : C)
       (x : Error) (few many : ℕ) : Type 0 where
-    -- it ends a section, or the whole replay
-    pub stops : (k.ended ≡ true) ⊎ ((s : ℕ) × EndsSection seal w k d e s)
+    -- it ends a section that was still to be gone over, or the whole replay
+    pub stops : (k.ended ≡ true) ⊎ ((s : ℕ) × EndsSection seal w k d e s × LeavesSection w k s)
     -- that only where a section was being cut, and the device failed or there was no memory
     pub ends : k.ended ≡ true
         → IsCuttingFrames seal w d × HasFailed {T = Unit {0}} (Err x) few many
+    -- and always where the blob of a section that owes one was left half cut: it is not as it was,
+    -- and has not settled
+    pub cut : (s : ℕ) (u : PageBlob S gs) → w.journal.sections.held s ≡ Some u
+        → IsTrue (w.journal.unrecovered s)
+        → (e (key_of w.journal.sections s) ≡ d (key_of w.journal.sections s) → ⊥)
+        → (StandsSettled (e (key_of w.journal.sections s)) → ⊥) → k.ended ≡ true
     -- the start is refused only where its section keeps fewer bytes, and is still to be gone over
     pub start : (p : ℕ) → x ≡ ItemOutOfRange p → (p ≡ w.start_position)
         × (length (given_bytes seal w d w.start_section) < p)
@@ -115,6 +131,8 @@ module _ {F S D : Type 0} {gs : _} (g : buffer.Ghosts (PageBlob S gs)) (gives : 
       pub over : IsGoing k new
       pub passed : HasPassed w k old new
       pub none : dev.Tells → (s o : ℕ) (i : List ℕ) → IsItemLeft seal w (disk (dev.time old)) s o i → ⊥
+      -- what it went over is whole frames
+      pub whole : dev.Tells → LeavesWhole seal w k (disk (dev.time old)) (disk (dev.time new))
       -- it is over
       pub drained : IsDrained k ⊎ (k.ended ≡ true)
 
@@ -126,6 +144,8 @@ module _ {F S D : Type 0} {gs : _} (g : buffer.Ghosts (PageBlob S gs)) (gives : 
       -- the first that was left, and it is left no more
       pub item : dev.Tells
           → GivesItem seal w k (disk (dev.time old)) (disk (dev.time new)) spelling accepted config x
+      -- what it went over before is whole frames
+      pub whole : dev.Tells → LeavesWhole seal w k (disk (dev.time old)) (disk (dev.time new))
       -- there is less to go over
       pub nearer : way_of k < way_of w
 
@@ -157,5 +177,8 @@ module _ {F S D : Type 0} {gs : _} (g : buffer.Ghosts (PageBlob S gs)) (gives : 
       pub ends : NextEnds answer
       -- what decoding an item needs to know stays
       pub same_config : kept ≡ config
+      -- at each moment, also where it fails, this is what each crash leaves
+      pub leaves : dev.Tells → Always (dev.time old) (dev.time new)
+          (LeavesFrames seal w (disk (dev.time old)))
       -- a replay that has ended does nothing
       pub ended : w.ended ≡ true → (answer ≡ None) × (k ≡ w) × (new ≡ old)

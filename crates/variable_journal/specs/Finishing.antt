@@ -7,6 +7,7 @@ use Rattle.blob_device.specs.declared.device.Device as device
 use Rattle.sealed_pages.specs.Buffer.{size_of}
 use Rattle.sealed_pages.specs.Shown.{shown}
 use Rattle.sealed_pages.specs.declared.page_blob.PageBlob.{PageBlob}
+use Rattle.section_manager.specs.Sections.{key_of}
 use Rattle.section_manager.specs.Setting.{Setting}
 use Rattle.section_manager.specs.declared.buffer.SectionBuffer as buffer
 use Rattle.section_manager.specs.declared.journal.Error.{Error}
@@ -46,6 +47,13 @@ pub record Moment (F B : Type 0) : Type 0 where
   -- how the blobs read
   pub disk : Disk
 
+-- The replay is the same at both moments, and the blobs of its partition are: what a caller does
+-- elsewhere between two calls does not count.
+pub record IsAsLeft {F B : Type 0} (a b : Moment F B) : Type 0 where
+  pub walk : a.walk ≡ b.walk
+  pub blobs : (s : ℕ) → a.disk (key_of b.walk.journal.sections s)
+      ≡ b.disk (key_of b.walk.journal.sections s)
+
 -- A call of `next` that answered no error.
 pub record NextCall (F B V : Type 0) : Type 0 where
   -- the replay before it
@@ -81,12 +89,13 @@ module _ {F S V C : Type 0} {gs : _} (seal : List ℕ → ℕ) (spelling : V →
   GivesNext old new (Some x) =
       GivesItem seal old.walk new.walk old.disk new.disk spelling accepted config x
 
-  -- these calls, the newest first, led from one moment to the other
+  -- these calls, the newest first, led from one moment to the other; between two of them the caller
+  -- may write elsewhere
   abbrev pub HasCalled : Moment F (PageBlob S gs) → List (NextCall F (PageBlob S gs) V)
       → Moment F (PageBlob S gs) → Type 0
-  HasCalled from [] now = now ≡ from
+  HasCalled from [] now = IsAsLeft now from
   HasCalled from (c ∷ calls) now =
-      (now ≡ c.new) × GivesNext c.old c.new c.gave × HasCalled from calls c.old
+      IsAsLeft now c.new × GivesNext c.old c.new c.gave × HasCalled from calls c.old
 
   -- These items are all that were to be given.
   pub record AreAllItems (from : Moment F (PageBlob S gs)) (xs : List (GivenItem V)) : Type 0 where

@@ -1,6 +1,6 @@
 -- What an opening of a journal of frames up to byte `end` of section `last` promises. Sections behind that one
 -- go, the newest first; then it is cut to its sealed bytes before `end`; then all frames are gone over.
-use Rattle.std.specs.Prelude.{◌≡◌, ◌≢◌, ◌⊎◌, ◌↔◌, ℕ, ◌-◌, ◌^◌, ◌<◌, ◌≤◌, eqb, cond, false, List, take, Option, Some, None, Result, IfOk, OnErr, IsTrue}
+use Rattle.std.specs.Prelude.{◌≡◌, ◌≢◌, ◌⊎◌, ◌↔◌, ℕ, ◌-◌, ◌^◌, ◌<◌, ◌≤◌, eqb, cond, false, List, length, take, Option, Some, None, Result, IfOk, OnErr, IsTrue}
 use Rattle.std.specs.Result.{IsErrOf}
 use Rattle.blob_device.specs.Disk.{Key, Disk, nothing, settled_at}
 use Rattle.blob_device.specs.Opened.{OpenedList}
@@ -9,6 +9,7 @@ use Rattle.blob_device.specs.declared.device.Device as device
 use Rattle.value_codec.specs.declared.codec.Error as codec
 use Rattle.value_codec.specs.declared.codec.Error.TheVariants.{InvalidVarint}
 use Rattle.sealed_pages.specs.ChanceSeal.{Leaves}
+use Rattle.sealed_pages.specs.Cutting.{StandsSettled}
 use Rattle.sealed_pages.specs.SealedPrefix.{sealed_prefix}
 use Rattle.sealed_pages.specs.Shown.{shown}
 use Rattle.sealed_pages.specs.declared.page_blob.PageBlob.{PageBlob}
@@ -60,6 +61,11 @@ module _ (seal : List ℕ → ℕ) (P : ℕ) (partition : List ℕ) (last end : 
         → (d (section_key partition s) ≡ from (section_key partition s))
         ⊎ Leaves seal P (sealed_prefix seal P (from (section_key partition s)).content)
         (whole_end (judged_bytes from s)) (d (section_key partition s))
+    -- where a length in it is refused, also that length, and all bytes behind it up to the bound
+    pub lengths : (s : ℕ) → s ≤ last → IsThere from s → HasBadLength (rest_of (judged_bytes from s))
+        → (d (section_key partition s) ≡ from (section_key partition s))
+        ⊎ Leaves seal P (sealed_prefix seal P (from (section_key partition s)).content)
+        (length (judged_bytes from s)) (d (section_key partition s))
     -- until the removals of those behind the last one are durable, it is as before, or settled as
     -- it read
     pub first : (s : ℕ) → s ≤ last → IsThere from s
@@ -68,6 +74,17 @@ module _ (seal : List ℕ → ℕ) (P : ℕ) (partition : List ℕ) (last end : 
         ⊎ ((t : ℕ) → last < t → IsThere from t → d (section_key partition t) ≡ nothing))
     -- no other blob changes
     pub others : (q : Key) → ((s : ℕ) → IsThere from s → q ≢ section_key partition s) → d q ≡ from q
+
+  -- What each crash leaves, at a moment of such an opening, of a section up to the last one whose
+  -- blob had settled.
+  pub record LeavesSettled (from d : Disk) (s : ℕ) : Type 0 where
+    -- a prefix of its sealed prefix, with all whole frames that are kept
+    pub frames : Leaves seal P (sealed_prefix seal P (from (section_key partition s)).content)
+        (whole_end (judged_bytes from s)) (d (section_key partition s))
+    -- and what stands behind them where a length is refused
+    pub lengths : HasBadLength (rest_of (judged_bytes from s))
+        → Leaves seal P (sealed_prefix seal P (from (section_key partition s)).content)
+        (length (judged_bytes from s)) (d (section_key partition s))
 
   module _ {V C : Type 0} (spelling : V → List ℕ) (accepted : V → C → Type 0) (config : C) where
     -- the item is a value that the codec accepts
@@ -113,7 +130,7 @@ module _ (seal : List ℕ → ℕ) (P : ℕ) (partition : List ℕ) (last end : 
       -- and any section may be made
       pub ceiling : k.sections.ceiling ≡ 2 ^ 64 - 1
 
-    -- In section s stands what is refused with e: all kept items that go before are values.
+    -- In section s stands what is refused first, with e: over all sections in order, and in each.
     pub record IsFirstRefused (refusal : List ℕ → C → Option codec.Error) (from : Disk)
         (e : codec.Error) (s : ℕ) : Type 0 where
       -- the section has a blob
@@ -123,6 +140,9 @@ module _ (seal : List ℕ → ℕ) (P : ℕ) (partition : List ℕ) (last end : 
       -- items of sections before it are values
       pub before : (t o : ℕ) (i : List ℕ) → IsThere from t → t < s
           → IsItemAt (judged_bytes from t) o i → IsValue i
+      -- and no length in them is refused
+      pub lengths : (t : ℕ) → IsThere from t → t < s
+          → HasBadLength (rest_of (judged_bytes from t)) → ⊥
       -- so are its own up to one that is refused; or all of them, and behind them stand five bytes or
       -- more that say no length
       pub why : ((o : ℕ) × (i : List ℕ) × IsItemAt (judged_bytes from s) o i
@@ -141,6 +161,11 @@ module _ (seal : List ℕ → ℕ) (P : ℕ) (partition : List ℕ) (last end : 
       -- at each moment, also where the call fails
       pub moments : dev.Tells
           → Always (dev.time old) (dev.time new) (BoundingFrames (disk (dev.time old)))
+      -- then too each crash leaves the frames of a section whose blob had settled
+      pub settled : dev.Tells → Always (dev.time old) (dev.time new) (λ d. (s : ℕ) → s ≤ last
+          → IsThere (disk (dev.time old)) s
+          → StandsSettled (disk (dev.time old) (section_key partition s))
+          → LeavesSettled (disk (dev.time old)) d s)
       -- this is the journal then
       pub ends : IfOk result (λ k. IsOpenedTo g gives dev.Tells paged capacity k (dev.opened new)
           (disk (dev.time old)) (disk (dev.time new)))

@@ -1,13 +1,15 @@
 -- What a replay of a journal of frames gives and keeps. It is the replay of the bytes below it, which
 -- stands where a frame begins.
-use Rattle.std.specs.Prelude.{◌≡◌, ◌⊎◌, ◌↔◌, ℕ, ◌+◌, ◌<◌, ◌≤◌, false, List, [], ◌∷◌, ◌++◌, length, take, Option, Some, IsTrue}
+use Rattle.std.specs.Prelude.{◌≡◌, ◌⊎◌, ◌↔◌, ℕ, ◌<◌, ◌≤◌, false, List, [], ◌∷◌, ◌++◌, length, take, Option, Some, IsTrue}
 use Rattle.blob_device.specs.Disk.{Key, Blob, Disk}
 use Rattle.blob_device.specs.Opened.{OpenedList}
 use Rattle.value_codec.specs.declared.codec.Error as codec
 use Rattle.value_codec.specs.declared.codec.Error.TheVariants.{InvalidVarint}
+use Rattle.sealed_pages.specs.Buffer.{bytes_of}
 use Rattle.sealed_pages.specs.ChanceSeal.{Leaves}
 use Rattle.sealed_pages.specs.Cutting.{StandsSettled}
 use Rattle.sealed_pages.specs.SealedPrefix.{sealed_prefix}
+use Rattle.sealed_pages.specs.Shown.{shown}
 use Rattle.sealed_pages.specs.declared.page_blob.PageBlob.{PageBlob}
 use Rattle.section_manager.specs.Sections.{key_of, IsHeld}
 use Rattle.section_manager.specs.Setting.{Setting}
@@ -123,6 +125,20 @@ module _ {F S : Type 0} {gs : _} (seal : List ℕ → ℕ) where
   abbrev pub ReplayingFrames : Walk F (PageBlob S gs) → Disk → Key → Blob → Type 0
   ReplayingFrames w from q b = bytes.Replaying seal 1 w from q b ⊎ IsCutToFrames w from q b
 
+  -- What each crash leaves of the held sections, at a moment of a replay.
+  pub record LeavesFrames (w : Walk F (PageBlob S gs)) (from d : Disk) : Type 0 where
+    -- of one that owes a replay a prefix of its sealed prefix, with all its whole frames
+    pub owed : (s : ℕ) (u : PageBlob S gs) → w.journal.sections.held s ≡ Some u
+        → IsTrue (w.journal.unrecovered s) → Leaves seal u.page_size
+        (sealed_prefix seal u.page_size (from (key_of w.journal.sections s)).content)
+        (whole_end (sealed_prefix seal u.page_size (from (key_of w.journal.sections s)).content))
+        (d (key_of w.journal.sections s))
+    -- of any other a prefix of its bytes, no shorter than what had settled
+    pub free : (s : ℕ) (u : PageBlob S gs) → w.journal.sections.held s ≡ Some u
+        → w.journal.unrecovered s ≡ false → Leaves seal u.page_size
+        (bytes_of (shown u) (from (key_of w.journal.sections s)).content) u.settled
+        (d (key_of w.journal.sections s))
+
   -- A section is being cut: it owes a replay, and has more bytes than whole frames. No item of it is
   -- left, and none of an earlier one.
   pub record IsCuttingFrames (w : Walk F (PageBlob S gs)) (d : Disk) : Type 0 where
@@ -144,6 +160,9 @@ module _ {F S : Type 0} {gs : _} (seal : List ℕ → ℕ) where
       pub left : IsItemLeft old d x.0 x.1 item
       -- before all others
       pub first : (t q : ℕ) (i : List ℕ) → IsItemLeft old d t q i → StandsBefore t q x.0 x.1 → ⊥
+      -- no length in a section before it is refused
+      pub lengths : (s : ℕ) → IsAhead old s ⊎ IsIn old s → s < x.0
+          → HasBadLength (rest_of (given_bytes old d s)) → ⊥
       -- it spells the value
       pub spells : Spells spelling accepted config item x.3
       -- and has this length
@@ -151,6 +170,11 @@ module _ {F S : Type 0} {gs : _} (seal : List ℕ → ℕ) where
       -- those behind it are left
       pub rest : (t q : ℕ) (i : List ℕ) → IsItemLeft new e t q i
           ↔ (IsItemLeft old d t q i × StandsBefore x.0 x.1 t q)
+
+    -- each section that it went over since then is whole frames
+    abbrev pub LeavesWhole : Type 0
+    LeavesWhole = (s : ℕ) → IsAhead old s ⊎ IsIn old s → (IsAhead new s ⊎ IsIn new s → ⊥)
+        → rest_of (given_bytes new e s) ≡ []
 
     -- The replay has ended section s.
     pub record EndsSection (s : ℕ) : Type 0 where
@@ -167,6 +191,12 @@ module _ {F S : Type 0} {gs : _} (seal : List ℕ → ℕ) where
       -- the replay had not gone over it
       pub near : IsAhead old section ⊎ IsIn old section
       pub ends : EndsSection section
+      -- no length in a section before it is refused
+      pub lengths : (s : ℕ) → IsAhead old s ⊎ IsIn old s → s < section
+          → HasBadLength (rest_of (given_bytes old d s)) → ⊥
+      -- those sections are whole frames now
+      pub whole : (s : ℕ) → IsAhead old s ⊎ IsIn old s → s < section
+          → rest_of (given_bytes new e s) ≡ []
       -- its first item that was left is refused, or none was, and behind its frames stand five bytes
       -- or more that say no length
       pub why : ((o : ℕ) × (i : List ℕ) × IsItemLeft old d section o i

@@ -21,7 +21,7 @@ use Rattle.segments.specs.FixedReplay.{Walk, Place, IsDrained}
 use Rattle.segments.specs.FixedStepping.{failing, standing, way_of}
 use Rattle.variable_journal.specs.Frames.{HasBadLength}
 use Rattle.variable_journal.specs.Reading.{IsPastLast}
-use Rattle.variable_journal.specs.Replaying.{GivenItem, given_bytes}
+use Rattle.variable_journal.specs.Replaying.{GivenItem, LeavesWhole, given_bytes}
 use Rattle.variable_journal.specs.Advancing.{GivesError, GivesOne, HasPassed, IsGoing}
 use Rattle.variable_journal.specs.declared.journal.replaying.Header.{Header}
 use Rattle.variable_journal.specs.declared.journal.replaying.Header.TheVariants.{Length, Cut, Bad}
@@ -173,6 +173,8 @@ module _ {F S D : Type 0} {gs : _} (g : buffer.Ghosts (PageBlob S gs)) (gives : 
       -- the replay may be used
       pub over : IsGoing g gives seal dev k new
       pub passed : HasPassed g gives seal dev w k old new
+      -- what it went over is whole frames
+      pub whole : dev.Tells → LeavesWhole seal w k (disk (dev.time old)) (disk (dev.time new))
       pub nearer : way_of k < way_of w
 
     -- what a turn answers; behind an error the replay stands in no section

@@ -1,6 +1,11 @@
 pub mod Adding
+pub mod Elsewhere
 pub mod Frame
 pub mod Keeping
+pub mod Laws
 pub mod Offset
+pub mod Opened
+pub mod Reach
+pub mod Resting
 pub mod Running
 pub mod Section

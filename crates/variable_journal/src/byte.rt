@@ -49,6 +49,7 @@ impl Codec for Byte {
     }
 
     fn accepts(&self, _cfg: ()) -> bool {
+        // Read, so that the proof has its range.
         let _value = self.value;
         true
     }

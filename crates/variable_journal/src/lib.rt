@@ -12,7 +12,9 @@
 mod byte;
 mod items;
 mod journal;
+mod laws;
 pub mod plain;
 
 pub use items::Items;
 pub use journal::{Config, Journal, Replay};
+pub use laws::{call_laws, item_laws, opening_laws};

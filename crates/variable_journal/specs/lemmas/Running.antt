@@ -1,7 +1,8 @@
 -- Turns of a replay of frames, one after another: what holds from where the first began.
-use Rattle.std.specs.Prelude.{◌≡◌, ◌⊎◌, ℕ, ◌<◌, ◌≤◌, false, true, List, length, take, Option, Some, Err, IsTrue}
+use Rattle.std.specs.Prelude.{◌≡◌, ◌⊎◌, ℕ, ◌<◌, ◌≤◌, Bool, false, true, List, [], length, take, Option, None, Some, Err, IsSomeAnd, IsTrue}
 use Rattle.std.proofs.Common.{inl, inr, refl, sym, ap, ◌∙◌, subst, arith, length-take}
 use Rattle.std.proofs.Math.Seq.{take-length}
+use Rattle.std.proofs.lemmas.Bool.{cases_eq, cases_lt}
 use Rattle.std.proofs.lemmas.List.{take-take}
 use Rattle.blob_device.specs.Disk.{Key, Blob, Disk}
 use Rattle.blob_device.specs.Timeline.{disk, Each}
@@ -18,17 +19,18 @@ use Rattle.section_manager.specs.Setting.{Setting}
 use Rattle.section_manager.specs.declared.buffer.SectionBuffer as buffer
 use Rattle.section_manager.specs.declared.journal.Error.{Error}
 use Rattle.segments.specs.FixedLists.{section_size}
-use Rattle.segments.specs.FixedReplay.{Walk, IsAhead, IsIn, IsDrained, IsLeft, IsSameOrCut, SameWalk}
+use Rattle.segments.specs.FixedReplay.{Walk, Place, IsAhead, IsIn, IsDrained, IsLeft, IsSameOrCut, SameWalk, kept_of}
 use Rattle.segments.specs.FixedStepping.{way_of, GoesOn}
 use Rattle.segments.specs.lemmas.FixedOwed.{cut_then, same_or_cut}
 use Rattle.segments.specs.lemmas.replay.Reading.{failed_since, not_read_since}
 use Rattle.segments.specs.lemmas.replay.Walks.{same_bytes}
 use Rattle.segments.specs.lemmas.replay.WalksOn.{replaying_start}
+use Rattle.variable_journal.specs.lemmas.Frame.{rest_none}
 use Rattle.variable_journal.specs.lemmas.Offset.{cut_whole, whole_within}
 use Rattle.variable_journal.specs.Frames.{frames, items_of, rest_of, whole_end, HasBadLength}
-use Rattle.variable_journal.specs.Replaying.{GivenItem, EndsSection, IsCuttingFrames, KeepsFrames, RefusesItem, ReplayingFrames, given_bytes}
+use Rattle.variable_journal.specs.Replaying.{GivenItem, EndsSection, IsCuttingFrames, KeepsFrames, LeavesWhole, RefusesItem, ReplayingFrames, given_bytes}
 use Rattle.variable_journal.specs.Advancing.{GivesError, GivesNone, GivesOne, HasGone, HasPassed, IsGoing, IsKept, Keeps}
-use Rattle.blob_device.proofs.general.Options.{none_in, same_some, some_of, some_there}
+use Rattle.blob_device.proofs.general.Options.{none_in, none_or_value, same_some, some_of, some_there}
 
 module _ (seal : List ℕ → ℕ) (P : ℕ) where
   take_own : (xs : List ℕ) → xs ≡ take (length xs) xs
@@ -80,6 +82,29 @@ module _ (seal : List ℕ → ℕ) (P : ℕ) where
         ];
       }
 
+-- whether a section is ahead
+pub ahead_or_not : (o : Option ℕ) (s : ℕ) → IsSomeAnd o (λ n. n ≤ s) ⊎ (IsSomeAnd o (λ n. n ≤ s) → ⊥)
+ahead_or_not None s = inr (λ never. never)
+ahead_or_not (Some n) s = elim (cases_lt s n) [ inl before ↦ inr (λ le. omega (arith, le, before)) | inr after ↦ inl after ]
+
+in_or_not : (o : Option Place) (s : ℕ) → IsSomeAnd o (λ p. p.section ≡ s) ⊎ (IsSomeAnd o (λ p. p.section ≡ s) → ⊥)
+in_or_not None s = inr (λ never. never)
+in_or_not (Some p) s = elim (cases_eq p.section s) [ inl same ↦ inl same | inr other ↦ inr other ]
+
+-- whether a replay has still to go over it
+pub near_or_not : {F B : Type 0} (w : Walk F B) (s : ℕ) → (IsAhead w s ⊎ IsIn w s) ⊎ (IsAhead w s ⊎ IsIn w s → ⊥)
+near_or_not w s = elim (ahead_or_not w.next_section s) [
+  | inl ahead ↦ inl (inl ahead)
+  | inr far ↦ elim (in_or_not w.place s) [
+    | inl there ↦ inl (inr there)
+    | inr out ↦ inr (λ near. elim near [ inl ahead ↦ far ahead | inr there ↦ out there ])
+  ]
+]
+
+-- of a section that is not held nothing is given
+pub whole_none : {F S : Type 0} {gs : _} (seal : List ℕ → ℕ) (w : Walk F (PageBlob S gs)) (d : Disk) (s : ℕ) → w.journal.sections.held s ≡ None → rest_of (given_bytes seal w d s) ≡ []
+whole_none {S = S} {gs = gs} seal w d s none = ap (λ (o : Option (PageBlob S gs)). rest_of (kept_of seal (w.journal.unrecovered s) o (d (key_of w.journal.sections s)).content)) none ∙ rest_none
+
 module _ {F S D : Type 0} {gs : _} (g : buffer.Ghosts (PageBlob S gs)) (gives : F → Setting) (seal : List ℕ → ℕ) (dev : device.Ghosts D) where
   -- a replay that has not begun keeps all
   pub keeps_start : (w : Walk F (PageBlob S gs)) (at : D) → Keeps g gives seal dev w w at at
@@ -91,6 +116,7 @@ module _ {F S D : Type 0} {gs : _} (g : buffer.Ghosts (PageBlob S gs)) (gives : 
     on_disk = λ t. record {
       bytes = λ s u v held also free. same_bytes (Unit {0}) u v (disk (dev.time at) (key_of w.journal.sections s)) (disk (dev.time at) (key_of w.journal.sections s)) (same_some (w.journal.sections.held s) u v held also) (λ x. refl);
       items = λ going s u held owed. frames_same seal u.page_size (disk (dev.time at) (key_of w.journal.sections s)) (disk (dev.time at) (key_of w.journal.sections s)) refl;
+      behind = λ s held now far. refl;
     };
     moments = λ t. always_start (dev.time at) (Each (ReplayingFrames seal w (disk (dev.time at)))) (λ q. inl (replaying_start seal 1 w (disk (dev.time at)) q));
     entries = λ q never. refl;
@@ -106,6 +132,15 @@ module _ {F S D : Type 0} {gs : _} (g : buffer.Ghosts (PageBlob S gs)) (gives : 
     };
     rest = λ t. record { left = λ x q i. (λ l. l, λ l. l); kept = λ s near. refl; sizes = λ s near. refl };
   }
+
+  -- a cut that was begun and has not settled has ended the replay
+  pub cut_ends : (w k : Walk F (PageBlob S gs)) (a b : D) → Keeps g gives seal dev w k a b → dev.Tells → (s : ℕ) (u : PageBlob S gs) → w.journal.sections.held s ≡ Some u → IsTrue (w.journal.unrecovered s)
+      → (disk (dev.time b) (key_of w.journal.sections s) ≡ disk (dev.time a) (key_of w.journal.sections s) → ⊥) → (StandsSettled (disk (dev.time b) (key_of w.journal.sections s)) → ⊥) → k.ended ≡ true
+  cut_ends w k a b keeps t s u held owed changed unsettled = go k.ended refl
+    where
+      go : (o : Bool) → k.ended ≡ o → k.ended ≡ true
+      go true is = is
+      go false is = absurd (elim ((keeps.on_disk t).items is s u held owed).rests [ inl same ↦ changed same | inr rests ↦ unsettled rests ])
 
   -- calls that may have given items
   module _ (w m k : Walk F (PageBlob S gs)) (a b c : D) (one : HasGone g gives seal dev w m a b) (going : m.ended ≡ false) where
@@ -159,7 +194,39 @@ module _ {F S D : Type 0} {gs : _} (g : buffer.Ghosts (PageBlob S gs)) (gives : 
           frames_then seal u.page_size (disk (dev.time a) (key_of w.journal.sections s)) (disk (dev.time b) (key_of w.journal.sections s)) (disk (dev.time c) (key_of w.journal.sections s))
           ((kept_one.on_disk t).items going s u held owed)
           (subst (λ (q : Key). KeepsFrames seal u.page_size (disk (dev.time b) q) (disk (dev.time c) q)) (key_mid s) paged);
+      behind = λ s held now far. (let mid = (goes.held s).1 held in
+          more.behind s mid now (λ near. far (kept_one.onward s near)) ∙ (kept_one.on_disk t).behind s held mid far);
     }
+
+    -- where a length is refused, all bytes of the section are kept
+    pub bad_stays : dev.Tells → (s : ℕ) → HasBadLength (rest_of (given_bytes seal w (disk (dev.time a)) s)) → given_bytes seal m (disk (dev.time b)) s ≡ given_bytes seal w (disk (dev.time a)) s
+    bad_stays t s bad = go (w.journal.sections.held s) refl (w.journal.unrecovered s) refl
+      where
+        d : Disk
+        d = disk (dev.time a)
+
+        e : Disk
+        e = disk (dev.time b)
+
+        go : (o : Option (PageBlob S gs)) → w.journal.sections.held s ≡ o → (y : Bool) → w.journal.unrecovered s ≡ y → given_bytes seal m e s ≡ given_bytes seal w d s
+        go None is y owes = absurd (let none = whole_none seal w d s is in omega (arith, bad.enough, ap length none))
+        go (Some u) is false free =
+            let x = between s u is in
+            (λ i. kept_of seal ((kept_one.same.unrecovered s ∙ free) i) (x.1 i) (e (key_mid s i)).content)
+            ∙ ((kept_one.on_disk t).bytes s u x.0 is x.1 free).bytes tt
+            ∙ sym (λ i. kept_of seal (free i) (is i) (d (key_of w.journal.sections s)).content)
+        go (Some u) is true owed =
+            let x = between s u is in
+            let own : given_bytes seal w d s ≡ sealed_prefix seal u.page_size (d (key_of w.journal.sections s)).content = (λ i. kept_of seal (owed i) (is i) (d (key_of w.journal.sections s)).content) in
+            (λ i. kept_of seal ((kept_one.same.unrecovered s ∙ owed) i) (x.1 i) (e (key_mid s i)).content)
+            ∙ ap (λ (P : ℕ). sealed_prefix seal P (e (key_of w.journal.sections s)).content) (kept_one.floors s u x.0 is x.1).page_size
+            ∙ ((kept_one.on_disk t).items going s u is owed).all (subst (λ (l : List ℕ). HasBadLength (rest_of l)) own bad)
+            ∙ sym own
+
+    -- so none is in what was gone over
+    pub none_refused : dev.Tells → LeavesWhole seal w m (disk (dev.time a)) (disk (dev.time b)) → (s : ℕ) → IsAhead w s ⊎ IsIn w s → (IsAhead m s ⊎ IsIn m s → ⊥)
+        → HasBadLength (rest_of (given_bytes seal w (disk (dev.time a)) s)) → ⊥
+    none_refused t whole s near far bad = (let none = ap rest_of (sym (bad_stays t s bad)) ∙ whole s near far in omega (arith, bad.enough, ap length none))
 
     pub keeps_on : Keeps g gives seal dev m k b c → Keeps g gives seal dev w k a c
     keeps_on two = record {
@@ -217,58 +284,92 @@ module _ {F S D : Type 0} {gs : _} (g : buffer.Ghosts (PageBlob S gs)) (gives : 
       given = λ x q i l. has.given x q i ((first.left x q i).1 l);
     })
 
-    module _ {V C : Type 0} (spelling : V → List ℕ) (accepted : V → C → Type 0) (refusal : List ℕ → C → Option codec.Error) (config : C) (nearer : way_of m ≤ way_of w) where
-      pub one_then : (x : GivenItem V) → GivesOne g gives seal dev spelling accepted refusal config m k b c x → GivesOne g gives seal dev spelling accepted refusal config w k a c x
-      one_then x two = record {
-        over = two.over;
-        gone = gone_on w m k a b c one.gone going two.gone;
-        item = λ t. (let has = two.item t in let left = (one.rest t).left in record {
-          item = has.item;
-          left = (left x.0 x.1 has.item).0 has.left;
-          first = λ y q i l. has.first y q i ((left y q i).1 l);
-          spells = has.spells;
-          sized = has.sized;
-          rest = λ y q i. (λ l. (let was = (has.rest y q i).0 l in ((left y q i).0 was.0, was.1)), λ l. (has.rest y q i).1 ((left y q i).1 l.0, l.1));
-        });
-        nearer = omega (arith, nearer, two.nearer);
-      }
+    -- what the first calls went over is whole frames
+    module _ (whole : dev.Tells → LeavesWhole seal w m (disk (dev.time a)) (disk (dev.time b))) where
+      whole_far : Keeps g gives seal dev m k b c → ((s : ℕ) → IsHeld k.journal.sections s → IsHeld m.journal.sections s) → dev.Tells → (s : ℕ) → IsAhead w s ⊎ IsIn w s → (IsAhead m s ⊎ IsIn m s → ⊥)
+          → rest_of (given_bytes seal k (disk (dev.time c)) s) ≡ []
+      whole_far two held t s near far = elim (none_or_value (k.journal.sections.held s)) [
+        | inl none ↦ whole_none seal k (disk (dev.time c)) s none
+        | inr some ↦ (let now = some_there (k.journal.sections.held s) some.0 some.1 in ap rest_of ((two.on_disk t).behind s (held s now) now far) ∙ whole t s near far)
+      ]
 
-      refuses_then : dev.Tells → (e : codec.Error) → RefusesItem seal m k (disk (dev.time b)) (disk (dev.time c)) refusal config e → RefusesItem seal w k (disk (dev.time a)) (disk (dev.time c)) refusal config e
-      refuses_then t e has = (let first = one.rest t in let left = first.left in record {
-        section = has.section;
-        near = kept.onward has.section has.near;
-        ends = ends_then t has.section has.ends;
-        why = elim has.why [
-          | inl item ↦ inl (item.0, item.1, (left has.section item.0 item.1).0 item.2, (λ q i l. item.3 q i ((left has.section q i).1 l)), item.4)
-          | inr bad ↦ inr (bad.0, (λ q i l. bad.1 q i ((left has.section q i).1 l)), subst (λ (l : List ℕ). HasBadLength (rest_of l)) (first.kept has.section has.near) bad.2)
-        ];
-      })
+      -- so is what all went over
+      pub whole_then : HasGone g gives seal dev m k b c → (dev.Tells → LeavesWhole seal m k (disk (dev.time b)) (disk (dev.time c))) → dev.Tells → LeavesWhole seal w k (disk (dev.time a)) (disk (dev.time c))
+      whole_then two more t s near gone = elim (near_or_not m s) [
+        | inl still ↦ more t s still gone
+        | inr far ↦ whole_far two.keeps (λ x held. (two.goes.held x).0 held) t s near far
+      ]
 
-      pub error_then : (e : Error) → GivesError g gives seal dev spelling accepted refusal config m k b c e → GivesError g gives seal dev spelling accepted refusal config w k a c e
-      error_then e two = record {
-        keeps = keeps_on w m k a b c one.gone going two.keeps;
-        over = two.over;
-        failed = two.failed;
-        says = λ t. (let has = two.says t in record {
-          stops = elim has.stops [ inl end ↦ inl end | inr some ↦ inr (some.0, ends_then t some.0 some.1) ];
-          ends = λ ended. (let was = has.ends ended in (cutting_then t was.0, failed_since (Err e) (dev.faults a) (dev.faults b) (dev.faults c) kept.faults was.1));
-          start = λ p is. (let was = has.start p is in (
-            was.0 ∙ kept.same.position,
-            subst (λ (s : ℕ). length (given_bytes seal w (disk (dev.time a)) s) < p) kept.same.section (subst (λ (l : List ℕ). length l < p) ((one.rest t).kept m.start_section was.2) was.1),
-            subst (λ (s : ℕ). IsAhead w s ⊎ IsIn w s) kept.same.section (kept.onward m.start_section was.2),
-            subst (λ (s : ℕ). EndsSection seal w k (disk (dev.time a)) (disk (dev.time c)) s) kept.same.section (ends_then t m.start_section was.3),
-          ));
-          refused = λ y is. refuses_then t y (has.refused y is);
-          damaged = has.damaged;
-          floor = has.floor;
-        });
-        nearer = omega (arith, nearer, two.nearer);
-        cause = elim two.cause [
-          | inl start ↦ (let same = kept.same.position in inl (cc (start, same)))
-          | inr (inl below) ↦ inr (inl below)
-          | inr (inr failed) ↦ inr (inr (not_read_since (Err e) (dev.faults a) (dev.faults b) (dev.faults c) kept.faults failed))
-        ];
-      }
+      module _ {V C : Type 0} (spelling : V → List ℕ) (accepted : V → C → Type 0) (refusal : List ℕ → C → Option codec.Error) (config : C) (nearer : way_of m ≤ way_of w) where
+        pub one_then : (x : GivenItem V) → GivesOne g gives seal dev spelling accepted refusal config m k b c x → GivesOne g gives seal dev spelling accepted refusal config w k a c x
+        one_then x two = record {
+          over = two.over;
+          gone = gone_on w m k a b c one.gone going two.gone;
+          item = λ t. (let has = two.item t in let left = (one.rest t).left in record {
+            item = has.item;
+            left = (left x.0 x.1 has.item).0 has.left;
+            first = λ y q i l. has.first y q i ((left y q i).1 l);
+            lengths = λ s near lt bad. elim (near_or_not m s) [
+              | inl still ↦ has.lengths s still lt (subst (λ (l : List ℕ). HasBadLength (rest_of l)) (sym ((one.rest t).kept s still)) bad)
+              | inr far ↦ none_refused w m k a b c one.gone going t (whole t) s near far bad
+            ];
+            spells = has.spells;
+            sized = has.sized;
+            rest = λ y q i. (λ l. (let was = (has.rest y q i).0 l in ((left y q i).0 was.0, was.1)), λ l. (has.rest y q i).1 ((left y q i).1 l.0, l.1));
+          });
+          whole = whole_then two.gone two.whole;
+          nearer = omega (arith, nearer, two.nearer);
+        }
+
+        refuses_then : Keeps g gives seal dev m k b c → ((s : ℕ) → IsHeld k.journal.sections s → IsHeld m.journal.sections s) → dev.Tells → (e : codec.Error)
+            → RefusesItem seal m k (disk (dev.time b)) (disk (dev.time c)) refusal config e → RefusesItem seal w k (disk (dev.time a)) (disk (dev.time c)) refusal config e
+        refuses_then two held t e has = (let first = one.rest t in let left = first.left in record {
+          section = has.section;
+          near = kept.onward has.section has.near;
+          ends = ends_then t has.section has.ends;
+          lengths = λ s near lt bad. elim (near_or_not m s) [
+            | inl still ↦ has.lengths s still lt (subst (λ (l : List ℕ). HasBadLength (rest_of l)) (sym (first.kept s still)) bad)
+            | inr far ↦ none_refused w m k a b c one.gone going t (whole t) s near far bad
+          ];
+          whole = λ s near lt. elim (near_or_not m s) [ inl still ↦ has.whole s still lt | inr far ↦ whole_far two held t s near far ];
+          why = elim has.why [
+            | inl item ↦ inl (item.0, item.1, (left has.section item.0 item.1).0 item.2, (λ q i l. item.3 q i ((left has.section q i).1 l)), item.4)
+            | inr bad ↦ inr (bad.0, (λ q i l. bad.1 q i ((left has.section q i).1 l)), subst (λ (l : List ℕ). HasBadLength (rest_of l)) (first.kept has.section has.near) bad.2)
+          ];
+        })
+
+        pub error_then : (e : Error) → GivesError g gives seal dev spelling accepted refusal config m k b c e → GivesError g gives seal dev spelling accepted refusal config w k a c e
+        error_then e two = record {
+          keeps = all;
+          over = two.over;
+          failed = two.failed;
+          says = λ t. (let has = two.says t in record {
+            stops = elim has.stops [
+              | inl end ↦ inl end
+              | inr some ↦ inr (some.0, ends_then t some.0 some.1, record { near = kept.onward some.0 some.2.near; left = some.2.left })
+            ];
+            ends = λ ended. (let was = has.ends ended in (cutting_then t was.0, failed_since (Err e) (dev.faults a) (dev.faults b) (dev.faults c) kept.faults was.1));
+            cut = cut_ends w k a c all t;
+            start = λ p is. (let was = has.start p is in (
+              was.0 ∙ kept.same.position,
+              subst (λ (s : ℕ). length (given_bytes seal w (disk (dev.time a)) s) < p) kept.same.section (subst (λ (l : List ℕ). length l < p) ((one.rest t).kept m.start_section was.2) was.1),
+              subst (λ (s : ℕ). IsAhead w s ⊎ IsIn w s) kept.same.section (kept.onward m.start_section was.2),
+              subst (λ (s : ℕ). EndsSection seal w k (disk (dev.time a)) (disk (dev.time c)) s) kept.same.section (ends_then t m.start_section was.3),
+            ));
+            refused = λ y is. refuses_then two.keeps (λ s held. (two.keeps.stays s (two.over.bytes.over.opened_list.apart s held)).1.0 held) t y (has.refused y is);
+            damaged = has.damaged;
+            floor = has.floor;
+          });
+          nearer = omega (arith, nearer, two.nearer);
+          cause = elim two.cause [
+            | inl start ↦ (let same = kept.same.position in inl (cc (start, same)))
+            | inr (inl below) ↦ inr (inl below)
+            | inr (inr failed) ↦ inr (inr (not_read_since (Err e) (dev.faults a) (dev.faults b) (dev.faults c) kept.faults failed))
+          ];
+        }
+          where
+            all : Keeps g gives seal dev w k a c
+            all = keeps_on w m k a b c one.gone going two.keeps
 
   module _ {V C : Type 0} (spelling : V → List ℕ) (accepted : V → C → Type 0) (refusal : List ℕ → C → Option codec.Error) (w : Walk F (PageBlob S gs)) (a b : D) where
     -- by another name of what decoding needs to know, or of the replay
@@ -280,11 +381,12 @@ module _ {F S D : Type 0} {gs : _} (g : buffer.Ghosts (PageBlob S gs)) (gives : 
         (subst (λ (c : C). GivesError g gives seal dev spelling accepted refusal c w k a b x) same has)
 
   -- nothing is left where it is drained, or has ended
-  pub none_then : (w m : Walk F (PageBlob S gs)) (a b : D) → HasPassed g gives seal dev w m a b → IsGoing g gives seal dev m b → IsDrained m ⊎ (m.ended ≡ true) → {V C : Type 0} (spelling : V → List ℕ) (accepted : V → C → Type 0) (refusal : List ℕ → C → Option codec.Error) (config : C)
+  pub none_then : (w m : Walk F (PageBlob S gs)) (a b : D) → HasPassed g gives seal dev w m a b → (dev.Tells → LeavesWhole seal w m (disk (dev.time a)) (disk (dev.time b))) → IsGoing g gives seal dev m b → IsDrained m ⊎ (m.ended ≡ true) → {V C : Type 0} (spelling : V → List ℕ) (accepted : V → C → Type 0) (refusal : List ℕ → C → Option codec.Error) (config : C)
       → GivesNone g gives seal dev spelling accepted refusal config w m a b
-  none_then w m a b run was over spelling accepted refusal config = record {
+  none_then w m a b run whole was over spelling accepted refusal config = record {
     over = was;
     passed = run;
+    whole = whole;
     none = λ t s o i l. none_left (((run.rest t).left s o i).1 l).byte;
     drained = over;
   }

@@ -1,17 +1,18 @@
 // Reading items of a journal by their offset.
-ghost use Rattle.std.specs.Prelude.{◌≡◌, ◌↔◌, ◌⊎◌, ◌+◌, ◌≤◌, ◌<◌, ◌++◌, List, ℕ, [], length, Some, None, IfOk, OnErr};
+ghost use Rattle.std.specs.Prelude.{◌≡◌, ◌↔◌, ◌⊎◌, ◌+◌, ◌-◌, ◌≤◌, ◌<◌, ◌++◌, min, List, ℕ, [], length, Some, None, IfOk, IfSome, OnErr};
 ghost use Rattle.blob_device.specs.Timeline.{disk};
 ghost use Rattle.section_manager.specs.Refusing.{IsPruned};
 ghost use Rattle.segments.specs.FixedReading.{IsAbsent};
 ghost use Rattle.sealed_pages.specs.Buffer as pages;
-ghost use Rattle.sealed_pages.specs.Entries.{IsOpenAt};
 ghost use Rattle.sealed_pages.specs.Shown as page_blob;
-ghost use Rattle.variable_journal.specs.Reading.{FrameOf, Gets, GetsMany, HasHeader, Measures, Reads};
+ghost use Rattle.variable_journal.specs.FrameReading.{IsIdle, MayRead, Reads, ReadsLength};
+ghost use Rattle.variable_journal.specs.Reaching.{frame_reach, length_reach};
+ghost use Rattle.variable_journal.specs.Reading.{FrameOf, Gets, GetsMany, HasHeader, IsRefusedBy, Measures, SaysNoLength};
 ghost use Rattle.variable_journal.specs.Trying.{FindsLength, GetsHeld, TriesGet};
 
 use super::Journal;
 use crate::Items;
-use blob_device::Device;
+use blob_device::{Device, RError};
 use sealed_pages::PageBlob;
 use segments::journal::Error;
 use segments::{AppendFactory, BufferFactory, SectionBuffer};
@@ -54,29 +55,100 @@ impl<V: Codec, S: Seal> Journal<V, S> {
         }
     }
 
+    // The length at an offset below the end, and how many bytes it takes; none where it is cut short. No
+    // byte behind it is read. `most` is how many it may have there.
+    fn length_by_bytes<D: Device>(
+        dev: &mut D,
+        buffer: &PageBlob<S>,
+        offset: u64,
+        most: usize,
+    ) -> Result<Option<(u32, usize)>, Error>
+        requires open { MayRead D.Device buffer.now dev.old }
+        requires inside { offset < pages.size_of (page_blob.shown buffer.now) }
+        requires room { most ≡ min (pages.size_of (page_blob.shown buffer.now) - offset) 5 }
+        ensures reads { ReadsLength S.seal_of D.Device buffer.now offset dev.old dev.new result }
+        ensures few { IfOk result (λ r. IfSome r (λ f. f.1 ≤ 5)) }
+    {
+        let mut prefix = [0; LONGEST];
+        let mut seen = 0;
+        'bytes: while seen < most {
+            // One byte more at a time: those behind the length may lie in a damaged page.
+            seen += 1;
+            let prefix = &mut prefix[..seen];
+            buffer.read_at(dev, offset, prefix)?;
+            match read_varint32(prefix) {
+                Ok(found) => return Ok(Some(found)),
+                Err(_) => {}
+            }
+        }
+        if most < LONGEST {
+            return Ok(None);
+        }
+        Err(Error::Codec(codec::Error::InvalidVarint))
+    }
+
+    // As `length_by_bytes`, by one read where no page is damaged.
+    fn read_length<D: Device>(
+        dev: &mut D,
+        buffer: &PageBlob<S>,
+        offset: u64,
+    ) -> Result<Option<(u32, usize)>, Error>
+        requires open { MayRead D.Device buffer.now dev.old }
+        requires inside { offset < pages.size_of (page_blob.shown buffer.now) }
+        ensures reads { ReadsLength S.seal_of D.Device buffer.now offset dev.old dev.new result }
+        ensures few { IfOk result (λ r. IfSome r (λ f. f.1 ≤ 5)) }
+    {
+        let left = buffer.size() - offset;
+        let count = left.min(LONGEST as u64) as usize;
+        let mut prefix = [0; LONGEST];
+        let prefix = &mut prefix[..count];
+        match buffer.read_at(dev, offset, prefix) {
+            Ok(()) => length_of(prefix),
+            Err(e) => match e {
+                // The damaged page may have bytes behind the length alone.
+                RError::InvalidChecksum(_) => Self::length_by_bytes(dev, buffer, offset, count),
+                _ => Err(Error::from(e)),
+            },
+        }
+    }
+
+    // The length at an offset below the end, and how many bytes it takes; none where it is cut short. Where it is
+    // in memory, no byte behind it is read.
+    fn length_at<D: Device>(
+        dev: &mut D,
+        buffer: &PageBlob<S>,
+        offset: u64,
+    ) -> Result<Option<(u32, usize)>, Error>
+        requires open { MayRead D.Device buffer.now dev.old }
+        requires inside { offset < pages.size_of (page_blob.shown buffer.now) }
+        ensures reads { ReadsLength S.seal_of D.Device buffer.now offset dev.old dev.new result }
+        ensures few { IfOk result (λ r. IfSome r (λ f. f.1 ≤ 5)) }
+        ensures idle { IsIdle S.seal_of D.Device buffer.now offset dev.old dev.new }
+    {
+        match Self::held_length(buffer, offset) {
+            Some(found) => Ok(Some(found)),
+            None => Self::read_length(dev, buffer, offset),
+        }
+    }
+
     // The length at an offset, and how many bytes it takes, of a frame that ends within the buffer.
     fn header_at<D: Device>(
         dev: &mut D,
         buffer: &PageBlob<S>,
         offset: u64,
-        cfg: V::Cfg,
     ) -> Result<(u32, usize), Error>
-        requires { IsOpenAt (D.opened dev.old) (pages.key_of (page_blob.shown buffer.now))
-            buffer.now.end }
-        ensures reads { Reads S.seal_of V.refusal cfg D.Device buffer.now offset HasHeader
-            result dev.old dev.new }
+        requires { MayRead D.Device buffer.now dev.old }
+        ensures reads { Reads S.seal_of D.Device buffer.now offset dev.old length_reach SaysNoLength
+            HasHeader dev.new result }
         ensures inside { IfOk result (λ r. offset + (r.1 + r.0)
             ≤ pages.size_of (page_blob.shown buffer.now)) }
+        ensures idle { IsIdle S.seal_of D.Device buffer.now offset dev.old dev.new }
     {
         let left = buffer.size().saturating_sub(offset);
         if left == 0 {
             return Err(Error::ItemOutOfRange(offset));
         }
-        let count = left.min(LONGEST as u64) as usize;
-        let mut prefix = [0; LONGEST];
-        let prefix = &mut prefix[..count];
-        buffer.read_at(dev, offset, prefix)?;
-        let Some((size, header)) = length_of(prefix)? else {
+        let Some((size, header)) = Self::length_at(dev, buffer, offset)? else {
             return Err(Error::ItemOutOfRange(offset));
         };
         if header as u64 + u64::from(size) > left {
@@ -92,12 +164,13 @@ impl<V: Codec, S: Seal> Journal<V, S> {
         buffer: &PageBlob<S>,
         offset: u64,
     ) -> Result<V, Error>
-        requires { IsOpenAt (D.opened dev.old) (pages.key_of (page_blob.shown buffer.now))
-            buffer.now.end }
-        ensures { Reads S.seal_of V.refusal self.now.codec_config D.Device buffer.now offset
-            (FrameOf V.spelling V.accepted self.now.codec_config) result dev.old dev.new }
+        requires { MayRead D.Device buffer.now dev.old }
+        ensures reads { Reads S.seal_of D.Device buffer.now offset dev.old frame_reach
+            (IsRefusedBy V.refusal self.now.codec_config)
+            (FrameOf V.spelling V.accepted self.now.codec_config) dev.new result }
+        ensures idle { IsIdle S.seal_of D.Device buffer.now offset dev.old dev.new }
     {
-        let (size, header) = Self::header_at(dev, buffer, offset, self.codec_config)?;
+        let (size, header) = Self::header_at(dev, buffer, offset)?;
         let mut bytes = vec![in self.alloc; 0; size as usize]?;
         buffer.read_at(dev, offset + header as u64, bytes.as_mut_slice())?;
         Ok(V::decode_cfg(self.alloc, bytes.as_slice(), self.codec_config)?)
@@ -106,8 +179,9 @@ impl<V: Codec, S: Seal> Journal<V, S> {
     /// The item whose frame stands at this offset.
     ///
     /// It refuses a pruned section, one that is not held, and an offset at or past the end, or of a frame that runs
-    /// past it, in this order. `InvalidChecksum` names a page that no matching slot covers as far as the read
-    /// goes. `Codec` says why the bytes are no length, or no item.
+    /// past it, in this order. `InvalidChecksum` names a page that has bytes of the frame, and that no matching
+    /// slot covers as far as they go. Where no frame is whole, these are the bytes of its length. `Codec` says
+    /// why the bytes are no length, or no item. A frame that is in memory needs no call of the device.
     pub fn get<D: Device>(&self, dev: &mut D, section: u64, offset: u64) -> Result<V, Error>
         requires { IsJournal
             ⟦<PageBlob<S> as SectionBuffer>⟧ ⟦<AppendFactory<S> as BufferFactory>⟧.gives

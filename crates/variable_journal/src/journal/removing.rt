@@ -28,9 +28,9 @@ impl<V: Codec, S: Seal> Journal<V, S> {
     {
         let mut this = self;
         // The journal of bytes keeps the order: no section goes before the older ones are gone.
-        let (bytes, was) = this.bytes.prune(dev, min)?;
+        let (bytes, has_removed) = this.bytes.prune(dev, min)?;
         this.bytes = bytes;
-        Ok((this, was))
+        Ok((this, has_removed))
     }
 
     /// Removes all sections, the oldest first, and lifts the floor and the bound of the opening.

@@ -45,8 +45,8 @@ impl<V: Codec, S: Seal> Journal<V, S> {
     ghost use Rattle.variable_journal.specs.Shown.{shown};
     ghost use Rattle.variable_journal.specs.Walking.{config_of, walk_of};
 
-    /// Goes over the items from this offset of this section on, in ascending order. It reads pieces of about `buffer`
-    /// bytes. The start is a boundary: the offset of an item, or where the last one ends, or past the end.
+    /// Goes over the items from this offset of this section on, in ascending order. It is meant to read pieces of about
+    /// `buffer` bytes. The start is a boundary: the offset of an item, or where the last one ends, or past the end.
     ///
     /// It refuses an offset past the end of the section, if that is held.
     pub fn replay<D: Device>(
@@ -120,9 +120,9 @@ impl<V: Codec, S: Seal> Replay<V, S> {
     /// The next item, with its section, its offset and its length; none where all were given, or where the replay has
     /// ended.
     ///
-    /// An error ends its section, and the replay goes on with the next; one while a section is cut ends the replay.
-    /// `Codec` says why an item, or a length, is refused. `ItemOutOfRange` says that the start's section keeps fewer
-    /// bytes.
+    /// An error ends its section, and the replay goes on with the next. One that leaves a cut undone ends the replay,
+    /// and none is answered then. `Codec` says why the first item, or length, is refused that is left.
+    /// `ItemOutOfRange` says that the start's section keeps fewer bytes.
     pub fn next<D: Device>(&mut self, dev: &mut D) -> Option<Result<(u64, u64, u32, V), Error>>
         requires { IsGoing
             ⟦<PageBlob<S> as SectionBuffer>⟧ ⟦<AppendFactory<S> as BufferFactory>⟧.gives
@@ -171,6 +171,23 @@ impl<V: Codec, S: Seal> Replay<V, S> {
 
     // How many bytes of a length are at hand: five, or all that are kept.
     fn look<D: Device>(&mut self, dev: &mut D) -> Result<usize, Error>
+        requires { MayLook
+            ⟦<PageBlob<S> as SectionBuffer>⟧ ⟦<AppendFactory<S> as BufferFactory>⟧.gives
+            S.seal_of D.Device (walk_of self.old) dev.old }
+        ensures config { config_of self.new ≡ config_of self.old }
+        ensures looked { (r : Place) → (walk_of self.old).place ≡ Some r → HasLooked
+            ⟦<PageBlob<S> as SectionBuffer>⟧ ⟦<AppendFactory<S> as BufferFactory>⟧.gives
+            S.seal_of D.Device r (walk_of self.old) (walk_of self.new) dev.old dev.new result }
+    {
+        // Mostly so many are kept, and are at hand after one call.
+        if self.bytes.fill(dev, LONGEST)? {
+            return Ok(LONGEST);
+        }
+        self.look_last(dev)
+    }
+
+    // The same near the end of what is kept.
+    fn look_last<D: Device>(&mut self, dev: &mut D) -> Result<usize, Error>
         requires { MayLook
             ⟦<PageBlob<S> as SectionBuffer>⟧ ⟦<AppendFactory<S> as BufferFactory>⟧.gives
             S.seal_of D.Device (walk_of self.old) dev.old }

@@ -1,15 +1,18 @@
 // Adding items to a journal, and settling them.
-ghost use Rattle.std.specs.Prelude.{◌≡◌, ◌↔◌, ◌≤◌, ◌<◌, ◌^◌, length, IfOk, OnErr};
+ghost use Rattle.std.specs.Prelude.{◌≡◌, ◌⊎◌, ◌↔◌, ◌≤◌, ◌<◌, ◌^◌, length, IfOk, OnErr};
 ghost use Rattle.std.specs.Result.{IsErrOf};
 ghost use Rattle.std.specs.List.{Contains};
 ghost use Rattle.blob_device.specs.Timeline.{disk};
 ghost use Rattle.section_manager.specs.Answers.{seen};
+ghost use Rattle.section_manager.specs.Refusing.{IsPruned};
 ghost use Rattle.section_manager.specs.Sections.{IsHeld};
+ghost use Rattle.segments.specs.FixedAdding.{Overfills};
 ghost use Rattle.variable_journal.specs.Adding.{Appends};
 ghost use Rattle.variable_journal.specs.Frames.{frame};
 ghost use Rattle.variable_journal.specs.Settling.{Settles};
 
 use super::Journal;
+use super::reading::LONGEST;
 use blob_device::{Device, Handle};
 use sealed_pages::PageBlob;
 use segments::journal::Error;
@@ -35,7 +38,7 @@ fn framed<V: Codec>(alloc: Global, size: u32, item: &V) -> Result<Vec<u8>, Error
     ensures frame { IfOk result (λ r. r.items ≡ frame (V.spelling item.now)) }
     ensures cause { OnErr result (IsErrOf result Error.Mem) }
 {
-    let mut bytes = Vec::new(alloc);
+    let mut bytes = Vec::with_capacity(alloc, LONGEST + size as usize)?;
     write_varint32(size, &mut bytes)?;
     item.write(&mut bytes)?;
     Ok(bytes)
@@ -46,11 +49,26 @@ impl<V: Codec, S: Seal> Journal<V, S> {
     ghost use Rattle.variable_journal.specs.Lists.{IsJournal};
     ghost use Rattle.variable_journal.specs.Shown.{config_of, shown};
 
+    // Refuses so many bytes more where they are too many for the section's blob, before any call of the device.
+    fn guard_room(&self, section: u64, more: usize) -> Result<(), Error>
+        ensures room { IfOk result (λ x. Overfills (shown self.now) section more → ⊥) }
+        ensures full { IsErrOf result Error.Full → Overfills (shown self.now) section more }
+        ensures guard { IsPruned result (shown self.now).sections.floor
+            ↔ (section < (shown self.now).sections.floor) }
+        ensures cause { OnErr result (IsErrOf result Error.Full
+            ⊎ IsPruned result (shown self.now).sections.floor) }
+    {
+        match self.bytes.buffer(section)? {
+            Some(buffer) if !buffer.has_room(more) => Err(Error::Full),
+            _ => Ok(()),
+        }
+    }
+
     /// Adds an item at the end of the section, which is made where it is not held. The answer has the offset of
     /// its frame, and the length of the item without that of the frame.
     ///
     /// `ValueTooLarge` says that the length passes a u32; it comes before a section below the floor is refused.
-    /// `Full` says that the section's blob would pass the greatest `u64`.
+    /// `Full` says that the blob of a section that is held would pass the greatest `u64`; nothing is written then.
     pub fn append<D: Device>(
         self,
         dev: &mut D,
@@ -70,6 +88,7 @@ impl<V: Codec, S: Seal> Journal<V, S> {
         let size = item_size(item)?;
         self.bytes.prune_guard(section)?;
         let frame = framed(self.alloc, size, item)?;
+        self.guard_room(section, frame.len())?;
         let mut this = self;
         // In one append of the buffer: a flush between two would leave a part of the frame.
         let (bytes, offset) = this.bytes.append_bytes(dev, section, frame.as_slice())?;

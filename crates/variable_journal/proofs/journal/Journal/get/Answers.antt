@@ -1,12 +1,8 @@
-use Rattle.std.proofs.Common.{Err, inl, inr, refl, sym, subst}
-use Rattle.blob_device.specs.Disk.{Key}
-use Rattle.blob_device.specs.Timeline.{disk}
-use Rattle.sealed_pages.specs.Buffer.{IsSealed}
-use Rattle.sealed_pages.specs.Shown as page_blob
+use Rattle.std.proofs.Common.{Err, inl, inr, refl}
 use Rattle.section_manager.specs.lemmas.Seen.{err_same}
 use Rattle.segments.specs.lemmas.adding.Adding.{error_is}
+use Rattle.segments.specs.lemmas.adding.Write.{are_pages}
 use Rattle.segments.specs.lemmas.held.Passing.{guard_on}
-use Rattle.segments.specs.lemmas.held.Sections.{holds_own, is_held}
 use Rattle.variable_journal.specs.Shown.{config_of, shown}
 use Rattle.variable_journal.proofs.GettingLemmas.{gets_of, section_refused}
 use Rattle.variable_journal.proofs.journal.Journal.get.Goals as goal
@@ -23,13 +19,5 @@ returns-in_err-buffer g c =
 
 pub returns : goal.returns
 returns g c =
-    let j = shown c.args.self.now in
-    let u = c.in_ok-buffer.buffer.now in
-    let held = c.in_ok-buffer.ensures.held in
-    let over = c.requires.bytes.over in
-    let key = over.opened_list.key c.args.section u held in
-    gets_of g.S.Seal.seal_of g.V.Codec.spelling g.V.Codec.accepted g.V.Codec.refusal (config_of c.args.self.now) g.D.Device c.args.section c.args.offset j c.args.dev.now u held key
-    (over.opened_list.from_floor c.args.section (inl (is_held j.sections c.args.section u held)))
-    (λ t. holds_own j.sections c.args.section u held key g.S.Seal.seal_of (disk (g.D.Device.time c.args.dev.now)) ((over.disk t).stands c.args.section u held))
-    (λ t free. subst (λ (q : Key). IsSealed g.S.Seal.seal_of (page_blob.shown u) (disk (g.D.Device.time c.args.dev.now) q)) (sym key) ((c.requires.bytes.disk t).sealed c.args.section u held (record { checked = free; free = c.requires.free c.args.section })))
-    c.read_frame.result c.read_frame.new.dev c.read_frame.ensures
+    gets_of g.S.Seal.seal_of g.D.Device c.args.section (shown c.args.self.now) c.args.dev.now _ _ (are_pages g.row.S g.S.Seal g.S.Seal-dict) (λ u. refl) c.requires c.in_ok-buffer.buffer.now c.in_ok-buffer.ensures.held
+    g.V.Codec.spelling g.V.Codec.accepted g.V.Codec.refusal (config_of c.args.self.now) c.args.offset c.read_frame.new.dev c.read_frame.ensures.idle c.read_frame.result c.read_frame.ensures.reads

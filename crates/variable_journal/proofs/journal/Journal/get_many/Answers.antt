@@ -22,14 +22,14 @@ returns-in_err-item g c =
     rw (err_of c.from_residual-in_err-item.result c.in_err-item.field-0.0 c.from_residual-in_err-item.ensures.1)
     (many_failed g.S.Seal.seal_of g.V.Codec.spelling g.V.Codec.accepted g.V.Codec.refusal (config_of c.args.self.now) g.D.Device c.args.section c.args.offsets.now (shown c.args.self.now) c.args.dev.now
     _ _ (are_pages g.row.S g.S.Seal g.S.Seal-dict) (λ u. refl) c.requires c.in_ok-buffer.buffer.now c.in_ok-buffer.ensures.held
-    c.loop-offset.offset-index c.loop-offset-test.true c.loop-offset.items.items c.loop-offset.dev c.loop-offset.invariant c.read_frame.new.dev _ c.in_err-item.ensures)
+    c.loop-offset.offset-index c.loop-offset-test.true c.loop-offset.items.items c.loop-offset.dev c.loop-offset.invariant c.read_frame.new.dev c.in_err-item.ensures.idle _ c.in_err-item.ensures.reads)
 
 pub returns-in_err-push : goal.returns-in_err-push
 returns-in_err-push g c =
     rw (err_of c.from_residual-in_err-push.result _ c.from_residual-in_err-push.ensures.1)
     (many_memory g.S.Seal.seal_of g.V.Codec.spelling g.V.Codec.accepted g.V.Codec.refusal (config_of c.args.self.now) g.D.Device c.args.section c.args.offsets.now (shown c.args.self.now) c.args.dev.now
     _ _ (are_pages g.row.S g.S.Seal g.S.Seal-dict) (λ u. refl) c.requires c.in_ok-buffer.buffer.now c.in_ok-buffer.ensures.held
-    c.loop-offset.offset-index c.loop-offset-test.true c.loop-offset.items.items c.loop-offset.dev c.loop-offset.invariant c.read_frame.new.dev _ c.in_ok-item.ensures)
+    c.loop-offset.offset-index c.loop-offset-test.true c.loop-offset.items.items c.loop-offset.dev c.loop-offset.invariant c.read_frame.new.dev c.in_ok-item.ensures.idle _ c.in_ok-item.ensures.reads)
 
 pub loop-offset-init : goal.loop-offset-init
 loop-offset-init g c =
@@ -42,7 +42,7 @@ loop-offset-preserved g c =
     rw c.in_ok-push.ensures.items
     (going_on g.S.Seal.seal_of g.V.Codec.spelling g.V.Codec.accepted g.V.Codec.refusal (config_of c.args.self.now) g.D.Device c.args.section c.args.offsets.now (shown c.args.self.now) c.args.dev.now
     _ _ (are_pages g.row.S g.S.Seal g.S.Seal-dict) (λ u. refl) c.requires c.in_ok-buffer.buffer.now c.in_ok-buffer.ensures.held
-    c.loop-offset.offset-index c.loop-offset-test.true c.loop-offset.items.items c.loop-offset.dev c.loop-offset.invariant c.read_frame.new.dev c.in_ok-item.item c.in_ok-item.ensures)
+    c.loop-offset.offset-index c.loop-offset-test.true c.loop-offset.items.items c.loop-offset.dev c.loop-offset.invariant c.read_frame.new.dev c.in_ok-item.ensures.idle c.in_ok-item.item c.in_ok-item.ensures.reads)
 
 pub returns : goal.returns
 returns g c =

@@ -28,11 +28,10 @@ returns-then-not-try_read_held g c content item frame_there fine =
 
 pub returns-in-Ok : goal.returns-in-Ok
 returns-in-Ok g c =
-    let whole : length c.try_read_held.new.buf ≡ c.in_ok-bytes.bytes.len = search rules in
     got_held g.S.Seal.seal_of c.args.buffer.now c.args.offset c.in-Some.size c.in-Some.header c.in-Some.ensures
     _ _ _ c.try_read_held.ensures c.if-not-try_read_held.false (search rules) (omega (arith, c.if-left-whole.false, c.from.ensures, c.saturating_sub-left.ensures, c.size.ensures))
     g.V.Codec.spelling g.V.Codec.accepted c.args.self.now.codec_config c.in-Ok.item
-    (c.in-Ok.ensures.spelled ∙ c.as_slice.ensures.value ∙ take_at c.try_read_held.new.buf (drop (length c.try_read_held.new.buf) c.in_ok-bytes.bytes.items) c.in_ok-bytes.bytes.len whole)
+    (c.in-Ok.ensures.spelled ∙ c.as_slice.ensures.value ∙ take_at c.try_read_held.new.buf (drop (length c.try_read_held.new.buf) c.in_ok-bytes.bytes.items) c.in_ok-bytes.bytes.len (search rules))
     c.in-Ok.ensures.allowed
 
 pub returns : goal.returns

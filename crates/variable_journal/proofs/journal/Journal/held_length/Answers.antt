@@ -1,4 +1,4 @@
-use Rattle.std.proofs.Common.{◌≡◌, ◌+◌, true, false, length, arith, rules}
+use Rattle.std.proofs.Common.{length, arith, rules}
 use Rattle.variable_journal.specs.lemmas.Frame.{varint_some}
 use Rattle.variable_journal.proofs.TryingLemmas.{length_held, none_held, none_left, none_more}
 use Rattle.variable_journal.proofs.journal.Journal.held_length.Goals as goal

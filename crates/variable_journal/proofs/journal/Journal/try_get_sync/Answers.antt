@@ -1,5 +1,5 @@
 use Rattle.variable_journal.specs.Shown.{config_of, shown}
-use Rattle.variable_journal.proofs.TryingLemmas.{tried_nowhere, tried_there}
+use Rattle.variable_journal.proofs.TryingLemmas.{tried_there}
 use Rattle.variable_journal.proofs.journal.Journal.try_get_sync.Goals as goal
 
 pub returns : goal.returns

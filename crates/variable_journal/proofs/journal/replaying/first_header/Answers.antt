@@ -1,5 +1,5 @@
 use Rattle.std.specs.Prelude.{◌≡◌, ◌++◌, [], take, Some, None, Ok, Err}
-use Rattle.std.proofs.Common.{refl, ap, arith, length-take}
+use Rattle.std.proofs.Common.{refl, arith, length-take}
 use Rattle.variable_journal.specs.lemmas.Frame.{some_byte}
 use Rattle.variable_journal.proofs.journal.replaying.first_header.Goals as goal
 use Rattle.variable_journal.proofs.journal.replaying.first_header.Goals.{in-Ok-Some, in-Ok-None, in-Err}

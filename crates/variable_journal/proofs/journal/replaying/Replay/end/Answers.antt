@@ -1,5 +1,4 @@
 -- What is left of the section is passed over, and cut off.
-use Rattle.std.specs.Prelude.{◌≡◌}
 use Rattle.std.proofs.Common.{sym, ◌∙◌}
 use Rattle.value_codec.specs.declared.codec.Error.TheVariants.{EndOfBuffer}
 use Rattle.segments.specs.FixedWalking as bytes

@@ -1,6 +1,6 @@
 -- The sections that were gone over are whole frames.
 use Rattle.std.specs.Prelude.{◌≡◌, Err}
-use Rattle.std.proofs.Common.{inl, inr, refl, sym, ap, ◌∙◌}
+use Rattle.std.proofs.Common.{inl, inr, refl, ap, ◌∙◌}
 use Rattle.section_manager.specs.declared.journal.Error.TheVariants.{ReplayFailed}
 use Rattle.segments.specs.FixedShown as bytes
 use Rattle.variable_journal.specs.Walking.{walk_of}
@@ -12,7 +12,6 @@ pub returns-in_err-bytes : goal.returns-in_err-bytes
 returns-in_err-bytes g c =
     let e = c.in_err-bytes.field-0.0 in
     let f = c.in_err-bytes.ensures in
-    let w = walk_of c.args.self in
     let is : e ≡ ReplayFailed = (let at = f.cause in cc at) in
     rw (err_of c.from_residual.result e c.from_residual.ensures.1) (record {
       sections = tt;

@@ -4,8 +4,8 @@ use Rattle.std.proofs.lemmas.List.{length-take-le}
 use Rattle.segments.specs.FixedWalking as bytes
 use Rattle.variable_journal.specs.Walking.{walk_of}
 use Rattle.variable_journal.proofs.HeaderLemmas.{header_err, header_found, header_long, header_ready, header_stands}
+use Rattle.variable_journal.proofs.LookingLemmas.{of_some}
 use Rattle.variable_journal.proofs.journal.replaying.Replay.header.Goals as goal
-use Rattle.blob_device.proofs.general.Options.{some_of}
 use Rattle.blob_device.proofs.general.Results.{err_of}
 
 pub returns-in_err-count-clause-header : goal.returns-in_err-count-clause-header
@@ -13,15 +13,14 @@ returns-in_err-count-clause-header g c r at = rw (err_of c.from_residual.result 
     (header_err _ _ g.S.Seal.seal_of g.D.Device (walk_of c.args.self.now) r at c.requires.free (walk_of c.look.new.self) c.args.dev.now c.look.new.dev c.in_err-count.field-0.0 (c.in_err-count.ensures.looked r at))
 
 pub fill-requires-clause-over : goal.fill-requires-clause-over
-fill-requires-clause-over g c = (let r = some_of (walk_of c.args.self.now).place c.requires.stands in (c.in_ok-count.ensures.looked r.0 r.1).looks.over)
+fill-requires-clause-over g c = of_some (walk_of c.args.self.now).place c.requires.stands (λ r at. (c.in_ok-count.ensures.looked r at).looks.over)
 
 pub fill-requires-clause-stands : goal.fill-requires-clause-stands
 fill-requires-clause-stands g c =
-    let r = some_of (walk_of c.args.self.now).place c.requires.stands in
-    header_stands _ _ g.S.Seal.seal_of g.D.Device (walk_of c.args.self.now) r.0 r.1 c.requires.free (walk_of c.look.new.self) c.args.dev.now c.look.new.dev c.in_ok-count.count (c.in_ok-count.ensures.looked r.0 r.1)
+    of_some (walk_of c.args.self.now).place c.requires.stands (λ r at. header_stands _ _ g.S.Seal.seal_of g.D.Device (walk_of c.args.self.now) r at c.requires.free (walk_of c.look.new.self) c.args.dev.now c.look.new.dev c.in_ok-count.count (c.in_ok-count.ensures.looked r at))
 
 pub fill-requires-clause-fits : goal.fill-requires-clause-fits
-fill-requires-clause-fits g c = (let r = some_of (walk_of c.args.self.now).place c.requires.stands in omega (arith, (c.in_ok-count.ensures.looked r.0 r.1).hand.0))
+fill-requires-clause-fits g c = of_some (walk_of c.args.self.now).place c.requires.stands (λ r at. omega (arith, (c.in_ok-count.ensures.looked r at).hand.0))
 
 pub returns-in_err-fill-clause-header : goal.returns-in_err-fill-clause-header
 returns-in_err-fill-clause-header g c r at = absurd (
@@ -31,10 +30,8 @@ returns-in_err-fill-clause-header g c r at = absurd (
 
 pub slice_bounds-first_header-end : goal.slice_bounds-first_header-end
 slice_bounds-first_header-end g c =
-    let r = some_of (walk_of c.args.self.now).place c.requires.stands in
-    let long = header_long _ _ g.S.Seal.seal_of g.D.Device (walk_of c.args.self.now) r.0 r.1 c.requires.free (walk_of c.look.new.self) c.args.dev.now c.look.new.dev c.in_ok-count.count (c.in_ok-count.ensures.looked r.0 r.1)
-    (bytes.walk_of c.fill.new.self) c.fill.new.dev _ c.in_ok-fill.ensures c.at_hand.result.now c.at_hand.ensures in
-    sym (length-take-le c.in_ok-count.count c.at_hand.result.now long)
+    of_some (walk_of c.args.self.now).place c.requires.stands (λ r at. sym (length-take-le c.in_ok-count.count c.at_hand.result.now (header_long _ _ g.S.Seal.seal_of g.D.Device (walk_of c.args.self.now) r at c.requires.free (walk_of c.look.new.self) c.args.dev.now c.look.new.dev c.in_ok-count.count (c.in_ok-count.ensures.looked r at)
+    (bytes.walk_of c.fill.new.self) c.fill.new.dev _ c.in_ok-fill.ensures c.at_hand.result.now c.at_hand.ensures)))
 
 pub returns-clause-header : goal.returns-clause-header
 returns-clause-header g c r at =

@@ -1,85 +1,50 @@
 -- Turns are taken until one gives an item or an error, or nothing is left.
-use Rattle.std.specs.Prelude.{◌≡◌, Bool, true, false, None, Some, Ok, Err}
-use Rattle.std.proofs.Common.{inl, inr, refl, sym, ◌∙◌, ap, subst, arith}
+use Rattle.std.proofs.Common.{refl, ◌∙◌, ap}
 use Rattle.segments.specs.FixedWalking as bytes
-use Rattle.variable_journal.specs.Turning.{stopped}
+use Rattle.segments.specs.lemmas.adding.Write.{are_pages}
 use Rattle.variable_journal.specs.Walking.{config_of, walk_of}
-use Rattle.variable_journal.specs.lemmas.Running.{error_as, error_then, none_then, one_as, one_then, passed_start, passed_then}
+use Rattle.variable_journal.proofs.NextLemmas.{next_failed, next_gave, next_none, run_nearer, run_on, run_start, run_under}
 use Rattle.variable_journal.proofs.journal.replaying.Replay.next.Goals as goal
-
-not_true : (x : Bool) → (x ≡ true → ⊥) → x ≡ false
-not_true true never = absurd (never refl)
-not_true false never = refl
 
 pub turns-init : goal.turns-init
 turns-init g c = record {
-  over = c.requires;
-  passed = passed_start _ _ g.S.Seal.seal_of g.D.Device (walk_of c.args.self.now) c.args.dev.now;
-  nearer = omega arith;
+  run = run_start _ _ g.S.Seal.seal_of g.D.Device (walk_of c.args.self.now) c.args.dev.now c.requires;
   config = refl;
   ended = λ is. (refl, refl);
 }
 
 pub turn-requires : goal.turn-requires
-turn-requires g c = record {
-  over = c.turns.invariant.over;
-  going = not_true (walk_of c.turns.self).ended (λ ended. (let on = c.is_over.ensures.1 (inr ended) in cc on));
-  more = λ drained. (let on = c.is_over.ensures.1 (inl drained) in cc on);
-}
+turn-requires g c = run_under _ _ g.S.Seal.seal_of g.D.Device (walk_of c.args.self.now) (walk_of c.turns.self) c.args.dev.now c.turns.dev c.turns.invariant.run c.is_over.result c.is_over.ensures.1 (cc)
 
 pub turns-smaller : goal.turns-smaller
 turns-smaller g c =
-    let is : c.turn.result ≡ Ok None = cc in
-    let did = rw is at c.turn.ensures.ends in
-    did.nearer
+    run_nearer _ _ g.S.Seal.seal_of g.D.Device g.V.Codec.spelling g.V.Codec.accepted g.V.Codec.refusal (config_of c.turns.self) (walk_of c.args.self.now) (walk_of c.turns.self) (walk_of c.turn.new.self) c.args.dev.now c.turns.dev c.turn.new.dev
+    c.turns.invariant.run (run_under _ _ g.S.Seal.seal_of g.D.Device (walk_of c.args.self.now) (walk_of c.turns.self) c.args.dev.now c.turns.dev c.turns.invariant.run c.is_over.result c.is_over.ensures.1 (cc))
+    c.turn.result c.turn.ensures.ends (cc)
 
 pub turns-preserved : goal.turns-preserved
 turns-preserved g c =
-    let i = c.turns.invariant in
-    let is : c.turn.result ≡ Ok None = cc in
-    let did = rw is at c.turn.ensures.ends in
-    let going = not_true (walk_of c.turns.self).ended (λ ended. (let on = c.is_over.ensures.1 (inr ended) in cc on)) in
+    let under = run_under _ _ g.S.Seal.seal_of g.D.Device (walk_of c.args.self.now) (walk_of c.turns.self) c.args.dev.now c.turns.dev c.turns.invariant.run c.is_over.result c.is_over.ensures.1 (cc) in
     record {
-      over = did.over;
-      passed = passed_then _ _ g.S.Seal.seal_of g.D.Device (walk_of c.args.self.now) (walk_of c.turns.self) (walk_of c.turn.new.self) c.args.dev.now c.turns.dev c.turn.new.dev i.passed going did.passed;
-      nearer = omega (arith, i.nearer, did.nearer);
-      config = c.turn.ensures.config ∙ i.config;
-      ended = λ ended. (let at = i.passed.gone.goes.ended in absurd (cc (at, ended, going)));
+      run = run_on _ _ g.S.Seal.seal_of g.D.Device g.V.Codec.spelling g.V.Codec.accepted g.V.Codec.refusal (config_of c.turns.self) (walk_of c.args.self.now) (walk_of c.turns.self) (walk_of c.turn.new.self) c.args.dev.now c.turns.dev c.turn.new.dev
+          c.turns.invariant.run under c.turn.result c.turn.ensures.ends (cc);
+      config = c.turn.ensures.config ∙ c.turns.invariant.config;
+      ended = λ ended. (let at = c.turns.invariant.run.passed.gone.goes.ended in let going = under.going in absurd (cc (at, ended, going)));
     }
 
 pub returns-in-Ok-Some : goal.returns-in-Ok-Some
 returns-in-Ok-Some g c =
-    let i = c.turns.invariant in
-    let x = c.in-Ok-Some.item in
-    let is : c.turn.result ≡ Ok (Some x) = cc in
-    let did = rw is at c.turn.ensures.ends in
-    let going = not_true (walk_of c.turns.self).ended (λ ended. (let on = c.is_over.ensures.1 (inr ended) in cc on)) in
-    record {
-      ends = one_then _ _ g.S.Seal.seal_of g.D.Device (walk_of c.args.self.now) (walk_of c.turns.self) (walk_of c.turn.new.self) c.args.dev.now c.turns.dev c.turn.new.dev i.passed going g.V.Codec.spelling g.V.Codec.accepted g.V.Codec.refusal (config_of c.args.self.now) i.nearer x
-          (one_as _ _ g.S.Seal.seal_of g.D.Device g.V.Codec.spelling g.V.Codec.accepted g.V.Codec.refusal (walk_of c.turns.self) c.turns.dev c.turn.new.dev (config_of c.turns.self) (config_of c.args.self.now) i.config (walk_of c.turn.new.self) x did);
-      same_config = c.turn.ensures.config ∙ i.config;
-      ended = λ ended. (let at = i.passed.gone.goes.ended in absurd (cc (at, ended, going)));
-    }
+    next_gave _ _ g.S.Seal.seal_of g.D.Device g.V.Codec.spelling g.V.Codec.accepted g.V.Codec.refusal (config_of c.turns.self) (walk_of c.args.self.now) (walk_of c.turns.self) (walk_of c.turn.new.self) c.args.dev.now c.turns.dev c.turn.new.dev
+    c.turns.invariant.run (run_under _ _ g.S.Seal.seal_of g.D.Device (walk_of c.args.self.now) (walk_of c.turns.self) c.args.dev.now c.turns.dev c.turns.invariant.run c.is_over.result c.is_over.ensures.1 (cc))
+    c.turn.result c.turn.ensures.ends (are_pages g.row.S g.S.Seal g.S.Seal-dict) c.requires (config_of c.args.self.now) c.turns.invariant.config (config_of c.turn.new.self) c.turn.ensures.config c.in-Ok-Some.item (cc)
 
 pub returns-in-Err : goal.returns-in-Err
 returns-in-Err g c =
-    let i = c.turns.invariant in
-    let e = c.in-Err.e in
-    let is : c.turn.result ≡ Err e = cc in
-    let did = rw is at c.turn.ensures.ends in
-    let going = not_true (walk_of c.turns.self).ended (λ ended. (let on = c.is_over.ensures.1 (inr ended) in cc on)) in
-    record {
-      ends = error_then _ _ g.S.Seal.seal_of g.D.Device (walk_of c.args.self.now) (walk_of c.turns.self) (bytes.walk_of c.leave.new.self) c.args.dev.now c.turns.dev c.turn.new.dev i.passed going g.V.Codec.spelling g.V.Codec.accepted g.V.Codec.refusal (config_of c.args.self.now) i.nearer e
-          (error_as _ _ g.S.Seal.seal_of g.D.Device g.V.Codec.spelling g.V.Codec.accepted g.V.Codec.refusal (walk_of c.turns.self) c.turns.dev c.turn.new.dev (config_of c.turns.self) (config_of c.args.self.now) i.config (stopped (walk_of c.turn.new.self)) (bytes.walk_of c.leave.new.self) c.leave.ensures.goes e did);
-      same_config = c.turn.ensures.config ∙ i.config;
-      ended = λ ended. (let at = i.passed.gone.goes.ended in absurd (cc (at, ended, going)));
-    }
+    next_failed _ _ g.S.Seal.seal_of g.D.Device g.V.Codec.spelling g.V.Codec.accepted g.V.Codec.refusal (config_of c.turns.self) (walk_of c.args.self.now) (walk_of c.turns.self) (walk_of c.turn.new.self) c.args.dev.now c.turns.dev c.turn.new.dev
+    c.turns.invariant.run (run_under _ _ g.S.Seal.seal_of g.D.Device (walk_of c.args.self.now) (walk_of c.turns.self) c.args.dev.now c.turns.dev c.turns.invariant.run c.is_over.result c.is_over.ensures.1 (cc))
+    c.turn.result c.turn.ensures.ends (are_pages g.row.S g.S.Seal g.S.Seal-dict) c.requires (config_of c.args.self.now) c.turns.invariant.config (config_of c.turn.new.self) c.turn.ensures.config c.in-Err.e (cc) (bytes.walk_of c.leave.new.self) c.leave.ensures.goes
 
 pub returns : goal.returns
 returns g c =
-    let i = c.turns.invariant in
-    record {
-      ends = none_then _ _ g.S.Seal.seal_of g.D.Device (walk_of c.args.self.now) (walk_of c.turns.self) c.args.dev.now c.turns.dev i.passed i.over (c.is_over.ensures.0 cc) g.V.Codec.spelling g.V.Codec.accepted g.V.Codec.refusal (config_of c.args.self.now);
-      same_config = i.config;
-      ended = λ is. (refl, ap walk_of (i.ended is).0, (i.ended is).1);
-    }
+    next_none _ _ g.S.Seal.seal_of g.D.Device g.V.Codec.spelling g.V.Codec.accepted g.V.Codec.refusal (config_of c.args.self.now) (walk_of c.args.self.now) (walk_of c.turns.self) c.args.dev.now c.turns.dev c.turns.invariant.run (c.is_over.ensures.0 (cc))
+    (are_pages g.row.S g.S.Seal g.S.Seal-dict) c.requires (config_of c.turns.self) c.turns.invariant.config (λ is. (ap walk_of (c.turns.invariant.ended is).0, (c.turns.invariant.ended is).1))

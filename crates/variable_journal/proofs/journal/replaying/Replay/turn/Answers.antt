@@ -5,7 +5,7 @@ use Rattle.std.proofs.Common.{refl}
 use Rattle.segments.specs.FixedReplay.{Place}
 use Rattle.segments.specs.FixedWalking as bytes
 use Rattle.variable_journal.specs.Walking.{config_of, walk_of}
-use Rattle.variable_journal.proofs.EnteringLemmas.{entered}
+use Rattle.variable_journal.proofs.EnteringLemmas.{entered, only_ahead}
 use Rattle.variable_journal.proofs.HeaderLemmas.{place_told, turn_bad, turn_frame, turn_may, turn_stopped, turn_then, turn_torn}
 use Rattle.variable_journal.proofs.SteppingLemmas.{error_steps}
 use Rattle.variable_journal.proofs.TornLemmas.{one_byte}
@@ -21,7 +21,8 @@ returns-in_err-enter-clause-ends g c =
     let f = c.in_err-enter.ensures in
     rw (err_of c.from_residual.result c.in_err-enter.field-0.0 c.from_residual.ensures.1)
     (error_steps _ _ g.S.Seal.seal_of g.D.Device _ _ _ (walk_of c.args.self.now) (bytes.walk_of c.enter.new.self) c.args.dev.now c.enter.new.dev _ f.steps f.steps.broken.over f.left g.V.Codec.spelling g.V.Codec.accepted g.V.Codec.refusal (config_of c.args.self.now)
-    c.requires.over.free c.requires.going one_byte c.in_err-enter.field-0.0 refl f.steps.broken c.requires.over.walked)
+    c.requires.over.free c.requires.going c.requires.over.bytes.walk (only_ahead (walk_of c.args.self.now) (bytes.walk_of c.enter.new.self) (none_of (λ (r : Place). (r.section, r.position)) (walk_of c.args.self.now).place c.place.result c.place.ensures c.in_default.is) f.steps.onward)
+    one_byte c.in_err-enter.field-0.0 refl f.steps.broken c.requires.over.walked)
 
 pub returns-in_default-clause-ends : goal.returns-in_default-clause-ends
 returns-in_default-clause-ends g c =

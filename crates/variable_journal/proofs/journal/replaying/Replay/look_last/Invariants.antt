@@ -3,7 +3,7 @@ use Rattle.section_manager.specs.contracts.sealed.PageBlobSectionBuffer.TheImpl 
 use Rattle.segments.specs.FixedReplay.{Place}
 use Rattle.variable_journal.specs.Turning.{AreAtHand, Looks, StandsStill}
 use Rattle.variable_journal.specs.Walking.{config_of, walk_of}
-use Rattle.variable_journal.proofs.journal.replaying.Replay.look.Given as goal
+use Rattle.variable_journal.proofs.journal.replaying.Replay.look_last.Given as goal
 
 abbrev pub invariant-bytes : goal.invariant-bytes
 invariant-bytes g l = record {
