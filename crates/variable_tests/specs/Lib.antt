@@ -1,0 +1,2 @@
+-- What is open in a scenario.
+pub mod Stores
