@@ -127,8 +127,8 @@ impl<V: Codec, S: Seal> Cache<V, S> {
     /// stored, and the device is not touched.
     ///
     /// It refuses by `ValueTooLarge` a record of more bytes than a `u32` counts, with nothing
-    /// written. It refuses by `Full` where the blob of a section that is held would pass the
-    /// greatest `u64`, with nothing written either.
+    /// written. It refuses by `Full` where the section's blob would pass the greatest `u64`. To a
+    /// section that is held nothing is written then.
     pub fn put<D: Device>(self, dev: &mut D, index: u64, value: V) -> Result<Self, Error>
         requires over { MayUse ⟦<PageBlob<S> as SectionBuffer>⟧
             ⟦<AppendFactory<S> as BufferFactory>⟧.gives D.Device (shown V.refusal self) dev.old }

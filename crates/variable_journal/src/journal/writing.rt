@@ -68,7 +68,8 @@ impl<V: Codec, S: Seal> Journal<V, S> {
     /// its frame, and the length of the item without that of the frame.
     ///
     /// `ValueTooLarge` says that the length passes a u32; it comes before a section below the floor is refused.
-    /// `Full` says that the blob of a section that is held would pass the greatest `u64`; nothing is written then.
+    /// `Full` says that the section's blob would pass the greatest `u64`. To a section that is held nothing is
+    /// written then.
     pub fn append<D: Device>(
         self,
         dev: &mut D,
@@ -88,6 +89,7 @@ impl<V: Codec, S: Seal> Journal<V, S> {
         let size = item_size(item)?;
         self.bytes.prune_guard(section)?;
         let frame = framed(self.alloc, size, item)?;
+        // The append below does not say that it writes nothing where there is no room. So room is asked for first.
         self.guard_room(section, frame.len())?;
         let mut this = self;
         // In one append of the buffer: a flush between two would leave a part of the frame.
